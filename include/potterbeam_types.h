@@ -662,7 +662,7 @@ static inline void pbeam_record_close(pbeam_record_t *record)
     pbeam_close(record->words);
 }
 
-/* pbeam_cold_boot. `manifest_extent`: the number of bytes at the page's start that no command may write; pbeam_view_kept returns what a manifest takes. */
+/* pbeam_cold_boot. `kept`: the number of bytes at the page's start that no command may write; pbeam_view_kept returns what a manifest takes. */
 PBEAM_MUST_CHECK PBEAM_NONNULL(1, 2, 5)
 static inline int32_t pbeam_record_cold_boot(pbeam_record_t *record, const pbeam_cold_t *x, uint64_t max_cpus, uint64_t kept,
                                              const pbeam_page_t *page)

@@ -24,7 +24,7 @@ const BANK_WORDS: usize = 2;
 
 const CONSOLE_WORDS: usize = 6;
 
-// The number of words in an entry of section `k`: 6 for a console, 2 for a bank or region.
+// The number of words in an entry of section `k` (ML4): 6 for a console, 2 for a bank or region.
 pub fn entry_words(k: usize) -> usize
     ensures { λ r. ⌜ (r ≡ wordsPerEntry k) × (2 ≤ r) × (r ≤ 6) ⌝ }
 {

@@ -78,7 +78,8 @@ pub record Moved : Type 0 where
 unfoldable pub movedBy : Code → GranuleTable → GranuleTable → Moved
 movedBy k new old = record { answer = answerOf k 0 0; table = ifOk k new old }
 
--- 02, E6: "INVAL, before all other checks of any call on words, .. if their number is not the record's granules over 64, rounded up"
+-- Request E6: "INVAL, before all other checks of any call on words, .. if their number is not the record's granules over 64, rounded up"
+-- (CM2.1, CM3.1)
 abbrev pub fitting : Granules → GranuleTable → Bool
 fitting g t = wordsFit (t .words) (granuleCount g)
 

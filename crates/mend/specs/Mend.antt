@@ -52,7 +52,7 @@ keepsSection w e base q f k = stays w e base q (afterMending w e base q f k) k
 abbrev pub minorAt : List ℕ → ℕ
 minorAt page = minorOf (versionAt page)
 
--- "the page's edition": the smaller of 4 and its minor
+-- "the page's edition" (MD5), which it is read as: the smaller of 4 and its minor
 abbrev pub editionAt : List ℕ → ℕ
 editionAt page = min 4 (minorAt page)
 

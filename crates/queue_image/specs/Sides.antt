@@ -31,7 +31,7 @@ rowsIn s w = part (s .start) (s .width * rowsWaiting s w) w
 unfoldable pub rowJoined : Side → List ℕ → List ℕ → List ℕ
 rowJoined s row w = splice (s .number) (suc (rowsWaiting s w) ∷ []) (splice (s .start + s .width * rowsWaiting s w) row w)
 
--- drops the oldest row: the rows after it move up, and the freed place is zeroed
+-- drops the oldest row: the rows after it move up, and the freed place is zeroed (CE4)
 unfoldable pub rowDropped : Side → List ℕ → List ℕ
 rowDropped s w =
     splice (s .number) ((rowsWaiting s w - 1) ∷ []) (splice (s .start) (drop (s .width) (rowsIn s w) ++ replicate (s .width) 0) w)

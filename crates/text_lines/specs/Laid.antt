@@ -1,4 +1,4 @@
--- A text written into a lent slice as far as it fits. Assumes nothing.
+-- A text written into a lent slice as far as it fits (LS6). Assumes nothing.
 use Prim.Native.Nat.{ℕ, _≤_}
 use mathlib.Core.Path.{_≡_}
 use mathlib.Core.List.{List}

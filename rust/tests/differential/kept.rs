@@ -43,7 +43,7 @@ fn accepted_page(pair: &mut Pair) -> (u64, Vec<u8>) {
     }
 }
 
-/// A cold boot with `manifest_extent` kept bytes, then two warm boots.
+/// A cold boot with `kept` kept bytes, then two warm boots.
 fn boot(pair: &mut Pair, base: u64, kept: u64) {
     pair.load(|_, m| {
         m.images.record.words = [0; 5];
