@@ -86,7 +86,7 @@ fn field_at(part: &[u8], at: usize) -> Head
         return Head::Broken;
     }
     let tag = part[at];
-    let len = words::pair_at(part, at + 1) as usize;
+    let len = words::u16_at(part, at + 1) as usize;
     let value = at + FIELD_HEAD;
     if part.len() - value < len {
         return Head::Broken;

@@ -128,7 +128,7 @@ pub fn byte_at(s: &[u8], at: usize) -> u8
 }
 
 // The two-byte number at `at`. Bytes past the end count as 0.
-pub fn pair_at(s: &[u8], at: usize) -> u64
+pub fn u16_at(s: &[u8], at: usize) -> u64
     ensures { λ r. ⌜ (r ≡ numAt 2 at (now (s .entry))) × (r < 0x1_0000) ⌝ }
 {
     if s.len() <= at {

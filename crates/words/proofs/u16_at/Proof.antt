@@ -3,8 +3,8 @@ use mathlib.Core.Path.{sym}
 use native.Mathlib.Omega.{arith}
 use Rattle.words.proofs.Read.{num-one, num-add, num-out}
 use borrow.Author.Needs.{needs}
-use Rattle.words.proofs.pair_at.Statement.{statement}
-use Rattle.words.proofs.pair_at.Tie as tie
+use Rattle.words.proofs.u16_at.Statement.{statement}
+use Rattle.words.proofs.u16_at.Tie as tie
 
 returns : tie.Need-returns
 returns c = let a = c .before .before .args in (sym (num-out 2 (a .at) (a .s .now) (search needs)), search needs)
@@ -35,8 +35,8 @@ returns-2 c =
     let a = c .before .before .before .before .before .before .args in
     (omega (arith, num-one (a .at) (a .s .now), num-one (a .at + 1) (a .s .now), num-add 1 1 (a .at) (a .s .now)), search needs)
 
-pub pair-at-spec : {M : Type 1} → statement M
-pair-at-spec =
+pub u16-at-spec : {M : Type 1} → statement M
+u16-at-spec =
     tie.close
     (tie.spec
     returns
