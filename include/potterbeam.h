@@ -419,6 +419,8 @@ extern "C" {
  * Leaves   the page unchanged. view: what the page shows; refused: all zero.
  * Stack    256 bytes; AArch64 256
  * A later minor is never refused. Sections after e and bytes after the end mark are not read. Fields belong to every edition.
+ * If another CPU writes the page during the call, the view still has only places that were judged, all within the page; which bytes its
+ * entries and fields were judged by is then not known.
  */
 PBEAM_MUST_CHECK PBEAM_NONNULL(5)
 int32_t pbeam_read(const uint8_t *page, size_t page_len, uint64_t base, uint64_t edition,

@@ -72,6 +72,7 @@ extern "C" {
  * Stack    192 bytes; AArch64 192
  * A reader of any edition shows the same for both, except plat_data, the withdrawn field and the offsets of the arrays; packing the target
  * again changes no byte (proved).
+ * If another CPU writes the page during the call, no access leaves page or target, but target may then be no valid page: read it again.
  */
 PBEAM_MUST_CHECK
 int32_t pbeam_pack(const uint8_t *page, size_t page_len, uint64_t base, uint8_t *PBEAM_RESTRICT target, size_t target_len);
