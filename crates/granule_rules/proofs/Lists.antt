@@ -101,8 +101,8 @@ module _ (s : Record) (g : Granules) (d : Direction) (t : GranuleTable) where
   list-none (a ∷ l) h r q = absurd (omega arith)
   list-none [] h r q = rw q (go (fitting g t) refl)
     where
-      go : (b : Bool) → fitting g t ≡ b → movedTo (answerOf (fails (isFalse b) Inval Ok) 0 0) (t .bytes) (t .words) ≡ cond b
-          (listBy (moveOf s g d) 0 t []) (movedBy Inval t t)
+      go : (b : Bool) → fitting g t ≡ b → movedTo (answerOf (fails (isFalse b) Inval Ok) 0 0) (t .bytes) (t .words)
+          ≡ cond b (listBy (moveOf s g d) 0 t []) (movedBy Inval t t)
       go true f = refl
       go false f = refl
 
@@ -116,8 +116,8 @@ module _ (s : Record) (g : Granules) (d : Direction) (t : GranuleTable) where
       go false f = rw (f, ← move-unfit s g d t a f)
 
   -- a check that does not depend on the address refuses the first call
-  pub list-refused : (k : Code) → k ≡ sharedCode s g (length (t .bytes)) (t .words) → isOk k ≡ false → (l : List ℕ) → (length l ≡ 0 → ⊥) →
-      (r : Answer) → r ≡ answerOf k 0 0 →
+  pub list-refused : (k : Code) → k ≡ sharedCode s g (length (t .bytes)) (t .words) → isOk k ≡ false →
+      (l : List ℕ) → (length l ≡ 0 → ⊥) → (r : Answer) → r ≡ answerOf k 0 0 →
       movedTo r (t .bytes) (t .words) ≡ moveListOf s g d t l
   unfolding listBy onward movedTo answerOf
   list-refused k e n [] h r q = absurd (h refl)

@@ -124,8 +124,8 @@ module _ (s : Record) (g : Granules) (t : GranuleTable) (k : Code) (e : k ≡ sh
     where
       go : (a b c : Bool) → fitting g t ≡ a → isUp s ≡ b → tableFits g (length (t .bytes)) ≡ c
           → isOk (fails (isFalse a) Inval (fails (isFalse b) Unk (fails (isFalse c) BadAddr Ok))) ≡ false
-          → movedTo (answerOf (fails (isFalse a) Inval (fails (isFalse b) Unk (fails (isFalse c) BadAddr Ok))) 0 0) (t .bytes)
-          (t .words) ≡ moveOf s g d t addr
+          → movedTo (answerOf (fails (isFalse a) Inval (fails (isFalse b) Unk (fails (isFalse c) BadAddr Ok))) 0 0) (t .bytes) (t .words)
+          ≡ moveOf s g d t addr
       go false b c f u w n = move-unfit s g d t addr f
       go true false c f u w n = move-down s g d t addr f u
       go true true false f u w n = move-nowhere s g d t addr f u (table-unfit g (length (t .bytes)) addr w)

@@ -1,5 +1,5 @@
-// Little-endian numbers in a slice: reads 8-byte words, 4-byte halves, 2-byte numbers and bytes at any offset, writes 8, 4 or 2 bytes and lists of words; copies,
-// clears and cuts slices.
+// Little-endian numbers in a slice: reads 8-byte words, 4-byte halves, 2-byte numbers and bytes at any offset, writes 8, 4 or 2 bytes and
+// lists of words; copies, clears and cuts slices.
 ghost use mathlib.Core.Path.{_≡_};
 ghost use Prim.Native.Nat.{min, _+_, _<_, _≤_};
 ghost use lib.ListN.{length, getD, replicate};

@@ -16,8 +16,8 @@ same-length c = search needs
 returns : tie.Need-returns
 returns c =
     let a = c .before .before .before .before .before .before .args in
-    list-none (a .state) (a .granules .now) (a .direction) (tableOf (a .table .now) (a .words .now)) (a .addresses .now) (search needs) _
-    (c .move-none .ensures)
+    list-none (a .state) (a .granules .now) (a .direction) (tableOf (a .table .now) (a .words .now)) (a .addresses .now)
+    (search needs) _ (c .move-none .ensures)
 
 shared-code-requires : tie.Need-shared-code-requires
 shared-code-requires c κs = search needs
@@ -37,8 +37,8 @@ returns-2 c =
     let s = o .before in
     let a = s .before .before .before .before .before .before .args in
     list-refused (a .state) (a .granules .now) (a .direction) (tableOf (a .table .now) (a .words .now)) _ (s .shared-code .ensures)
-    (sym (o .is-ok .ensures) ∙ not-true _ (c .before .if2 .taken)) (a .addresses .now) (s .before .before .if1 .left) _
-    (c .answer-with .ensures)
+    (sym (o .is-ok .ensures) ∙ not-true _ (c .before .if2 .taken))
+    (a .addresses .now) (s .before .before .if1 .left) _ (c .answer-with .ensures)
 
 boot-params-requires : tie.Need-boot-params-requires
 boot-params-requires c κs = search needs
@@ -68,8 +68,8 @@ returns-3 c =
     let a = s .before .before .before .before .before .before .args in
     let p = shared-passed (a .state) (a .granules .now) (tableOf (a .table .now) (a .words .now)) _ (s .shared-code .ensures)
     (sym (o .is-ok .ensures) ∙ not-false _ (u .before .if2 .left)) in
-    told-list (a .state) (a .granules .now) (a .direction) (tableOf (a .table .now) (a .words .now)) (p .fit) (p .up) _
-    (u .boot-params .ensures) (a .addresses .now) _ (m .move-each .ensures)
+    told-list (a .state) (a .granules .now) (a .direction) (tableOf (a .table .now) (a .words .now))
+    (p .fit) (p .up) _ (u .boot-params .ensures) (a .addresses .now) _ (m .move-each .ensures)
 
 pub move-list-spec : {M : Type 1} → statement M
 move-list-spec =

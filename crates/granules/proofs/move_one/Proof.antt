@@ -65,8 +65,8 @@ returns-2 c =
     let a = s .before .before .before .before .args in
     let p = shared-passed (a .state) (a .granules .now) (tableOf (a .table .now) (a .words .now)) _ (s .shared-code .ensures)
     (sym (o .is-ok .ensures) ∙ not-false _ (u .before .if1 .left)) in
-    told-up (a .state) (a .granules .now) (a .direction) (tableOf (a .table .now) (a .words .now)) (a .address) (p .fit) (p .up) _
-    (u .boot-params .ensures) _
+    told-up (a .state) (a .granules .now) (a .direction) (tableOf (a .table .now) (a .words .now)) (a .address)
+    (p .fit) (p .up) _ (u .boot-params .ensures) _
     (m .move-at .ensures (a .granules .now)
     (found-is (a .granules .now) (n .no-bank .result) (length (a .table .now)) (a .address) (f .find-from .result) (p .some) (p .count)
     (rw (n .no-bank .ensures) (none-span (a .granules .now))) (f .find-from .ensures) .0))
