@@ -413,7 +413,7 @@ fn compare_manifests() {
             compare_listing(name, base, edition, lists);
         }
     }
-    // 02, E7: the cost grows with the bytes; a field in one piece, and fields of a byte each.
+    // Request E7: the cost grows with the bytes; a field in one piece, and fields of a byte each.
     let (small, none): (Lists, Lists) = ([&fvp, &uart, &[], &[]], [&[]; 4]);
     for (name, edition, lists, fields) in [
         ("name and serial", 3, small, board()),

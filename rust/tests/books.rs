@@ -1,4 +1,4 @@
-//! 02, E14: the books on granules. A long random sequence of delegations, undelegations, lists and other calls, with forged records and
+//! BO1 to BO5: the books on granules. A long random sequence of delegations, undelegations, lists and other calls, with forged records and
 //! refusals among them. The test keeps the books from the library's answers alone, and compares them with the table after every call.
 
 use potterbeam_tests::exports::{Exports, GranulesImage, Lent, RecordImage, Registers};

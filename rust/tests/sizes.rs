@@ -1,4 +1,4 @@
-//! 02, E6: single calls on tables of each size that matters, including 4,096 granules, which the run vectors of single calls do not have:
+//! CM2.1, CM3.1: single calls on tables of each size that matters, including 4,096 granules, which the vectors of single calls do not have:
 //! by the exports and by `pbeam_call`, with the right number of words, one too few and one too many, with a record that is up and one that
 //! is not. The expected answers are here; the model must agree.
 

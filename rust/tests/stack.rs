@@ -709,7 +709,7 @@ fn refused_boots(header: &mut Header) {
     }
 }
 
-// ---- A boot stack (02, E4) ----
+// ---- A boot stack (CD8) ----
 
 /// Stack of a call, which must be accepted and fit a boot stack.
 fn boot_stack<L: Clone>(what: &str, lent: &L, call: impl Fn(&mut L) -> i32) -> usize {

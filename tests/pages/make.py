@@ -458,7 +458,7 @@ def build_all():
 
 
 def check():
-    """What is known apart from the two above: the claims PK3 to PK7 and MD3 to MD7, on every case."""
+    """What is known apart from the two above: PK4, PK5, MD6 and MD7, on every case."""
     cases = [case for _, group in GROUPS for case in group]
     tally = Counter()
     for case in cases:

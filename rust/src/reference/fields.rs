@@ -1,5 +1,5 @@
-//! Board facts in the platform data (02, E7): fields of one byte of tag, two of length and the value, up to an end mark. Tag 3 is
-//! withdrawn (02, E10): it keeps its rules, but is shown without its value, and no description may hold it.
+//! Board facts in the platform data (FD1 to FD7): fields of one byte of tag, two of length and the value, up to an end mark. Tag 3 is
+//! withdrawn (FD8): it keeps its rules, but is shown without its value, and no description may hold it.
 
 /// Bytes of a field before its value, and of the end mark.
 pub const HEAD: usize = 3;

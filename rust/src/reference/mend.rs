@@ -1,4 +1,4 @@
-//! The mender (02, E12).
+//! The mender (MD1 to MD7).
 
 use super::fields::fields_end;
 use super::layout::{

@@ -1,4 +1,4 @@
-//! The packer (02, E11): what a reader of edition 4 shows, given to the writer.
+//! The packer (PK1 to PK7): what a reader of edition 4 shows, given to the writer.
 
 use super::fields::Shown;
 use super::layout::{Edition, ENTRY_WORDS, SECTIONS};

@@ -1,4 +1,4 @@
-//! 02, E5: with the number of kept bytes that pbeam_kept_for names, the manifest is read the same after any commands.
+//! KB3, KB5: with the number of kept bytes that pbeam_kept_for names, the manifest is read the same after any commands.
 
 use crate::calls;
 use crate::commands::{call, challenge, platform_token, realm_key, sign, token_signing, Step};

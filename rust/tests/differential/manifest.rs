@@ -239,7 +239,7 @@ fn told(page: &[u8], base: u64, edition: u64) -> (i32, ViewImage, Vec<u8>, Vec<u
     (code, view, text, words)
 }
 
-/// 02, E10: pages that differ only in the withdrawn value get the same answers, for a reader of any edition; and no word of them is
+/// FD9: pages that differ only in the withdrawn value get the same answers, for a reader of any edition; and no word of them is
 /// the place of the value.
 #[test]
 fn withdrawn_value_is_in_no_answer() {
