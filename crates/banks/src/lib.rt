@@ -11,6 +11,16 @@ ghost use Rattle.entries.specs.Entry.{bankOk};
 ghost use Rattle.banks.specs.Banks.{follows, granuleCount, holds, recordFrom, takes, SetUp, setUpOf};
 ghost use Rattle.banks.specs.Fast.{noBank, granuleIn, bankOf, foundFrom, firstBank, hasOneBank};
 
+// Most banks of a record, as a word of the record and as a length.
+const BANKS_MOST: u64 = 16;
+
+const BANK_PLACES: usize = 16;
+
+// Words of a record.
+pub const GRANULES_WORDS: usize = 33;
+
+pub type GranulesImage = [u64; GRANULES_WORDS];
+
 // The granule of an address: its index in the table, or nothing.
 pub enum Granule {
     Nothing,
@@ -50,11 +60,11 @@ fn bank_follows(low: u64, base: u64, size: u64) -> bool
 }
 
 // Returns the number of granules of a record; 0 if the set-up would refuse its banks (BN5).
-pub fn granule_count(granules: &[u64; 33]) -> u64
+pub fn granule_count(granules: &GranulesImage) -> u64
     ensures { λ r. ⌜ r ≡ granuleCount (now (granules .entry)) ⌝ }
 {
     let count = granules[0];
-    if 16 < count {
+    if BANKS_MOST < count {
         return 0;
     }
     let mut low: u64 = 0;
@@ -65,18 +75,18 @@ pub fn granule_count(granules: &[u64; 33]) -> u64
         if !bank_follows(low, base, size) {
             return 0;
         }
-        sum += size / 4096;
+        sum += size / words::PAGE_SIZE;
         low = base + size;
     }
     sum
 }
 
 // Returns the record of `count` banks, read from their bytes: 16 bytes a bank, base and size.
-fn record_from(shown: &[u8], count: usize) -> [u64; 33]
+fn record_from(shown: &[u8], count: usize) -> GranulesImage
     requires { ⌜ count ≤ 16 ⌝ }
     ensures { λ r. ⌜ r ≡ recordFrom count (now (shown .entry)) ⌝ }
 {
-    let mut made = [0u64; 33];
+    let mut made = [0u64; GRANULES_WORDS];
     made[0] = count as u64;
     for i in 0..2 * count {
         made[i + 1] = words::word_at(shown, 8 * i);
@@ -86,15 +96,15 @@ fn record_from(shown: &[u8], count: usize) -> [u64; 33]
 
 // Sets up the record for a table of `n` granules (BN3, BN4). `shown` has the banks that the reader shows, as the array lookup returns them.
 // INVAL leaves the record unchanged.
-pub fn set_up(shown: &[u8], n: u64, granules: &mut [u64; 33]) -> Code
+pub fn set_up(shown: &[u8], n: u64, granules: &mut GranulesImage) -> Code
     ensures { λ r. ⌜ _≡_ {A = SetUp} (record { code = r; granules = now (granules .exit) }) (setUpOf (now (shown .entry)) n (now (granules .entry))) ⌝ }
     ensures { λ r. ⌜ numberOf r ≡ cond (takes (now (shown .entry)) n) (pos 0) (minus 5) ⌝ }
 {
-    if shown.len() % 16 != 0 {
+    if shown.len() % entries::BANK_LEN != 0 {
         return Code::Inval;
     }
-    let count = shown.len() / 16;
-    if 16 < count {
+    let count = shown.len() / entries::BANK_LEN;
+    if BANK_PLACES < count {
         return Code::Inval;
     }
     if n == 0 {
@@ -127,7 +137,7 @@ fn bank_holds(base: u64, size: u64, address: u64) -> bool
 fn granules_in(size: u64) -> u64
     ensures { λ r. ⌜ (r ≡ size / 4096) × (r ≤ 0x10_0000_0000_0000) ⌝ }
 {
-    size / 4096
+    size / words::PAGE_SIZE
 }
 
 // Returns a bank that holds no address.
@@ -146,22 +156,22 @@ fn granule_in(bank: BankSpan, address: u64) -> Granule
     ensures { λ r. ⌜ r ≡ granuleIn bank address ⌝ }
 {
     let base = bank.base;
-    if address % 4096 != 0 {
+    if address % words::PAGE_SIZE != 0 {
         return Granule::Nothing;
     }
     if !bank_holds(base, bank.size, address) {
         return Granule::Nothing;
     }
-    let index = std::num::wrapping_add_u64(bank.before, (address - base) / 4096);
+    let index = std::num::wrapping_add_u64(bank.before, (address - base) / words::PAGE_SIZE);
     Granule::At(index as usize)
 }
 
 // Returns the first bank that holds an address, or no bank. Does not check the banks.
-fn bank_of(granules: &[u64; 33], address: u64) -> BankSpan
+fn bank_of(granules: &GranulesImage, address: u64) -> BankSpan
     ensures { λ r. ⌜ r ≡ bankOf (now (granules .entry)) address ⌝ }
 {
     let count = granules[0];
-    if 16 < count {
+    if BANKS_MOST < count {
         return no_bank();
     }
     let mut before: u64 = 0;
@@ -178,7 +188,7 @@ fn bank_of(granules: &[u64; 33], address: u64) -> BankSpan
 
 // Returns the granule of an address, and its bank; the record must have granules. Looks in `bank` first: consecutive addresses of a list
 // are mostly in the same bank.
-pub fn find_from(granules: &[u64; 33], bank: BankSpan, address: u64) -> Found
+pub fn find_from(granules: &GranulesImage, bank: BankSpan, address: u64) -> Found
     ensures { λ r. ⌜ r ≡ foundFrom (now (granules .entry)) bank address ⌝ }
 {
     let granule = granule_in(bank, address);
@@ -195,20 +205,20 @@ pub fn find_from(granules: &[u64; 33], bank: BankSpan, address: u64) -> Found
 // ---- the shortcut: a record of one bank ----
 
 // Whether a record has one bank, which meets the reader's rule and has `n` granules.
-pub fn has_one_bank(granules: &[u64; 33], n: usize) -> bool
+pub fn has_one_bank(granules: &GranulesImage, n: usize) -> bool
     ensures { λ r. ⌜ r ≡ hasOneBank (now (granules .entry)) n ⌝ }
 {
     if granules[0] != 1 {
         return false;
     }
-    if granules[2] / 4096 != n as u64 {
+    if granules[2] / words::PAGE_SIZE != n as u64 {
         return false;
     }
     bank_ok(granules[1], granules[2])
 }
 
 // Returns the granule of an address in the first bank.
-pub fn find_first(granules: &[u64; 33], address: u64) -> Granule
+pub fn find_first(granules: &GranulesImage, address: u64) -> Granule
     ensures { λ r. ⌜ r ≡ granuleIn (firstBank (now (granules .entry))) address ⌝ }
 {
     let first = BankSpan {

@@ -36,10 +36,10 @@ fn range_gate(params: Params, out: OutsideAs, pa: u64, size: u64) -> Gate
     if at < params.kept {
         return Gate::Stop(outside_code(out));
     }
-    if 4096 <= at {
+    if words::PAGE_SIZE <= at {
         return Gate::Stop(outside_code(out));
     }
-    if 4096 - at < size {
+    if words::PAGE_SIZE - at < size {
         return Gate::Stop(Code::Inval);
     }
     Gate::Go(at as usize)
@@ -54,7 +54,7 @@ pub fn page_gate(state: Record, len: usize, first: Code, out: OutsideAs, pa: u64
     if !codes::is_up(state) {
         return Gate::Stop(Code::Unk);
     }
-    if len != 4096 {
+    if len != words::PAGE_LEN {
         return Gate::Stop(Code::Unk);
     }
     if !codes::is_ok(first) {

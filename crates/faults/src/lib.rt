@@ -88,19 +88,19 @@ fn bank_fault(k: u8, i: usize, at: usize, base: u64, size: u64) -> Diagnosis
     requires { ⌜ at < 0x1000 ⌝ }
     ensures { λ r. ⌜ r ≡ bankFault k i at base size ⌝ }
 {
-    if base % 4096 != 0 {
+    if base % words::PAGE_SIZE != 0 {
         return found_at(Rule::EntryBase, k, i, at, base, 0);
     }
-    if size % 4096 != 0 {
+    if size % words::PAGE_SIZE != 0 {
         return found_at(Rule::EntrySize, k, i, at + 8, size, 0);
     }
     if size == 0 {
         return found_at(Rule::EntryEmpty, k, i, at + 8, size, 0);
     }
-    if 0x10_0000_0000_0000 < size {
+    if words::ADDRESS_LIMIT < size {
         return found_at(Rule::EntryEnd, k, i, at + 8, size, 0);
     }
-    if 0x10_0000_0000_0000 - size < base {
+    if words::ADDRESS_LIMIT - size < base {
         return found_at(Rule::EntryEnd, k, i, at + 8, size, 0);
     }
     Diagnosis::Clear
@@ -119,7 +119,7 @@ fn console_fault(
     requires { ⌜ at < 0x1000 ⌝ }
     ensures { λ r. ⌜ r ≡ consoleFault minor k i at base pages flags ⌝ }
 {
-    if base % 4096 != 0 {
+    if base % words::PAGE_SIZE != 0 {
         return found_at(Rule::EntryBase, k, i, at, base, 0);
     }
     if pages == 0 {
@@ -128,7 +128,7 @@ fn console_fault(
     if 0x100_0000_0000 < pages {
         return found_at(Rule::EntryEnd, k, i, at + 8, pages, 0);
     }
-    if 0x10_0000_0000_0000 - 4096 * pages < base {
+    if words::ADDRESS_LIMIT - words::PAGE_SIZE * pages < base {
         return found_at(Rule::EntryEnd, k, i, at + 8, pages, 0);
     }
     if 4 < minor {
@@ -202,7 +202,14 @@ fn check_fault(page: &[u8], k: u8, at: usize, count: u64, pointer: u64, check: u
     let total = std::num::wrapping_add_u64(head, sum_words(page, at, n));
     let wanted = std::num::wrapping_sub_u64(0, total);
     if check != wanted {
-        return found_at(Rule::Checksum, k, 0, 32 + 24 * (k as usize), check, wanted);
+        return found_at(
+            Rule::Checksum,
+            k,
+            0,
+            sections::CORE_CHECKSUM + sections::SECTION_BYTES * (k as usize),
+            check,
+            wanted,
+        );
     }
     Diagnosis::Clear
 }
@@ -239,13 +246,34 @@ fn section_fault(page: &[u8], base: u64, minor: u64, e: Edition, k: u8) -> Diagn
         return Diagnosis::Clear;
     }
     if count == 0 {
-        return found_at(Rule::EmptySection, k, 0, 16 + 24 * (k as usize), count, 0);
+        return found_at(
+            Rule::EmptySection,
+            k,
+            0,
+            sections::CORE_COUNT + sections::SECTION_BYTES * (k as usize),
+            count,
+            0,
+        );
     }
     if pointer % 8 != 0 {
-        return found_at(Rule::ArrayPointer, k, 0, 24 + 24 * (k as usize), pointer, 0);
+        return found_at(
+            Rule::ArrayPointer,
+            k,
+            0,
+            sections::CORE_POINTER + sections::SECTION_BYTES * (k as usize),
+            pointer,
+            0,
+        );
     }
     if !is_placed(base, e, k, count, pointer) {
-        return found_at(Rule::ArrayPlace, k, 0, 24 + 24 * (k as usize), pointer, 0);
+        return found_at(
+            Rule::ArrayPlace,
+            k,
+            0,
+            sections::CORE_POINTER + sections::SECTION_BYTES * (k as usize),
+            pointer,
+            0,
+        );
     }
     array_fault(
         page,
@@ -266,10 +294,10 @@ fn is_placed(base: u64, e: Edition, k: u8, count: u64, pointer: u64) -> bool
     if pointer < base + e.core_size() {
         return false;
     }
-    if base + 4096 < pointer {
+    if base + words::PAGE_SIZE < pointer {
         return false;
     }
-    entries::fits(k as usize, count, base + 4096 - pointer)
+    entries::fits(k as usize, count, base + words::PAGE_SIZE - pointer)
 }
 
 // The first fault of the first `n` sections, each by itself.
@@ -318,7 +346,7 @@ fn overlap_fault(page: &[u8], i: u8) -> Diagnosis
         page,
         Rule::ArrayOverlap,
         i,
-        24 + 24 * (i as usize),
+        sections::CORE_POINTER + sections::SECTION_BYTES * (i as usize),
         from,
         to,
         i,
@@ -420,7 +448,7 @@ fn plat_fault(page: &[u8], base: u64, e: Edition, plat: u64) -> Diagnosis
     if plat < base + e.core_size() {
         return found_at(Rule::PlatPointer, 0, 0, 8, plat, 0);
     }
-    if base + 4096 <= plat {
+    if base + words::PAGE_SIZE <= plat {
         return found_at(Rule::PlatPointer, 0, 0, 8, plat, 0);
     }
     let at = (plat - base) as usize;
@@ -449,7 +477,7 @@ fn rules_fault(page: &[u8], base: u64, minor: u64, e: Edition) -> Diagnosis
     if padding != 0 {
         return found_at(Rule::Padding, 0, 0, 4, padding, 0);
     }
-    let plat = words::word_at(page, 8);
+    let plat = words::word_at(page, sections::CORE_PLAT_DATA);
     let end = sections::plat_rule(page, base, e);
     let FieldsEnd::Ended(taken) = end else {
         return plat_fault(page, base, e, plat);
@@ -467,8 +495,8 @@ pub fn first_fault(page: &[u8], base: u64, edition: u64) -> Diagnosis
     ensures { λ r. ⌜ r ≡ faultOf edition base (now (page .entry)) ⌝ }
     ensures { λ r. ⌜ diagnosisNumber r ≡ codeIn (readOf edition base (now (page .entry))) ⌝ }
 {
-    if page.len() != 4096 {
-        return found_at(Rule::Length, 0, 0, 0, page.len() as u64, 4096);
+    if page.len() != words::PAGE_LEN {
+        return found_at(Rule::Length, 0, 0, 0, page.len() as u64, words::PAGE_SIZE);
     }
     if !sections::place_ok(base, page.len()) {
         return found_at(Rule::Base, 0, 0, 0, base, 0);

@@ -9,6 +9,21 @@ ghost use Prim.Native.Nat.{_+_, _-_, _^_, _≤_};
 ghost use Rattle.features.specs.Features.{featuresOf, updateOf, forwardOf};
 ghost use Rattle.codes.specs.Codes.{answerOf};
 
+// The agreed minors that features and key update need.
+const SIGNING_MINOR: u64 = 4;
+
+const KEY_UPDATE_MINOR: u64 = 5;
+
+// The only feature register, and its value: bit 0, token signing is present.
+const FEATURES_INDEX: u64 = 0;
+
+const FEATURE_TOKEN_SIGNING: u64 = 1;
+
+// The highest mecid and the highest MECIDWidthm1.
+const MECID_MOST: u64 = 65535;
+
+const WIDTH_MOST: u64 = 15;
+
 // The result of a key update: the answer, and what the platform must do.
 pub struct UpdateResult {
     pub answer: Answer,
@@ -22,14 +37,14 @@ pub fn features(state: Record, index: u64) -> Answer
     if !codes::is_up(state) {
         return codes::answer_with(Code::Unk, 0, 0);
     }
-    if index != 0 {
+    if index != FEATURES_INDEX {
         return codes::answer_with(Code::Inval, 0, 0);
     }
     let params = codes::boot_params(state);
-    if params.minor < 4 {
+    if params.minor < SIGNING_MINOR {
         return codes::answer_with(Code::Unk, 0, 0);
     }
-    codes::answer_with(Code::Ok, 1, 0)
+    codes::answer_with(Code::Ok, FEATURE_TOKEN_SIGNING, 0)
 }
 
 // Whether `mecid` does not fit `bits` bits.
@@ -60,17 +75,17 @@ pub fn key_update(state: Record, width: u64, mecid: u64) -> UpdateResult
     if !codes::is_up(state) {
         return refused(Code::Unk);
     }
-    if 65535 < mecid {
+    if MECID_MOST < mecid {
         return refused(Code::Inval);
     }
-    if is_above(mecid, words::smaller(width, 15) + 1) {
+    if is_above(mecid, words::smaller(width, WIDTH_MOST) + 1) {
         return refused(Code::Inval);
     }
-    if 15 < width {
+    if WIDTH_MOST < width {
         return refused(Code::Unk);
     }
     let params = codes::boot_params(state);
-    if params.minor < 5 {
+    if params.minor < KEY_UPDATE_MINOR {
         return refused(Code::Unk);
     }
     UpdateResult {

@@ -24,7 +24,7 @@ pub fn fields_start(page: &[u8], view: View) -> usize
     if plat == 0 {
         return page.len();
     }
-    let at = (plat % 4096) as usize;
+    let at = (plat % words::PAGE_SIZE) as usize;
     let told = fields::scan_at(page, at);
     let FieldsEnd::Ended(_) = told else {
         return page.len();
@@ -49,7 +49,7 @@ pub fn field_count(page: &[u8], view: View) -> usize
     if plat == 0 {
         return 0;
     }
-    let at = (plat % 4096) as usize;
+    let at = (plat % words::PAGE_SIZE) as usize;
     if page.len() < at {
         return 0;
     }

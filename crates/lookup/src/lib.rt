@@ -14,6 +14,9 @@ ghost use Rattle.lookup.specs.Lookup.{spanOf, spanIn};
 ghost use Rattle.lookup.specs.Fast.{countOf, wordOf};
 ghost use Rattle.lookup.specs.Consoles.{consoleNamed};
 
+// Offset of the name in a console's entry.
+const CONSOLE_NAME_AT: usize = 16;
+
 // The result of a search for a console: its index, or `Nothing` if no console has the name.
 pub enum ConsoleFound {
     At(usize),
@@ -137,12 +140,12 @@ pub fn find_console(page: &[u8], view: View, name: &[u8; 8]) -> ConsoleFound
 {
     let wanted = words::word_at(name, 0);
     let array = array_of(page, view, 1);
-    let count = array.len() / 48;
+    let count = array.len() / entries::CONSOLE_LEN;
     for i in 0..count {
-        let from = 48 * i;
-        let end = from + 48;
+        let from = entries::CONSOLE_LEN * i;
+        let end = from + entries::CONSOLE_LEN;
         let console = &array[from..end];
-        if words::whole_word(console, 16) == wanted {
+        if words::whole_word(console, CONSOLE_NAME_AT) == wanted {
             return ConsoleFound::At(i);
         }
     }

@@ -22,7 +22,7 @@ fn larger(a: u64, b: u64) -> u64
 fn section_end(section: Section, k: usize) -> u64
     ensures { λ r. ⌜ (r ≡ sectionEnd k section) × (r ≤ 4096) ⌝ }
 {
-    let place = lookup::place_in(4096, section, k);
+    let place = lookup::place_in(words::PAGE_LEN, section, k);
     (place.at + place.len) as u64
 }
 
@@ -33,13 +33,13 @@ fn fields_reach(page: &[u8], plat: u64) -> u64
     if plat == 0 {
         return 0;
     }
-    let at = (plat % 4096) as usize;
+    let at = (plat % words::PAGE_SIZE) as usize;
     let told = fields::scan_at(page, at);
     let FieldsEnd::Ended(n) = told else {
-        return 4096;
+        return words::PAGE_SIZE;
     };
-    if 4096 - at < n {
-        return 4096;
+    if words::PAGE_LEN - at < n {
+        return words::PAGE_SIZE;
     }
     (at + n) as u64
 }

@@ -45,7 +45,7 @@ fn mend_padding(page: &mut [u8]) -> bool
     if sections::padding_at(page) == 0 {
         return false;
     }
-    words::put_u32(page, 4, 0);
+    words::put_u32(page, sections::CORE_PADDING, 0);
     true
 }
 
@@ -56,14 +56,14 @@ fn mend_plat(page: &mut [u8], base: u64, e: Edition) -> PlatKept
 {
     let told = sections::plat_rule(page, base, e);
     let FieldsEnd::Ended(taken) = told else {
-        words::put_word(page, 8, 0);
+        words::put_word(page, sections::CORE_PLAT_DATA, 0);
         return PlatKept {
             changed: true,
             from: 0,
             to: 0,
         };
     };
-    let from = words::word_at(page, 8);
+    let from = words::word_at(page, sections::CORE_PLAT_DATA);
     let to = from + (taken as u64);
     PlatKept {
         changed: false,
@@ -85,7 +85,11 @@ fn mend_section(page: &mut [u8], base: u64, minor: u64, e: Edition, fields: Plat
     if sections::keeps_section(page, base, minor, e, k, from, to) {
         return false;
     }
-    words::put_words(page, 16 + 24 * (k as usize), &[0, 0, 0]);
+    words::put_words(
+        page,
+        sections::CORE_COUNT + sections::SECTION_BYTES * (k as usize),
+        &[0, 0, 0],
+    );
     true
 }
 

@@ -47,8 +47,8 @@ pub fn next(words: &[u64], granules: usize, index: usize) -> Hit
     if granules <= index {
         return Hit::Inval;
     }
-    let mut at = index / 64;
-    let mut bits = high_bits(words[at], index % 64);
+    let mut at = index / realm_words::WORD_GRANULES;
+    let mut bits = high_bits(words[at], index % realm_words::WORD_GRANULES);
     while bits == 0 {
         at += 1;
         if words.len() <= at {
@@ -56,5 +56,5 @@ pub fn next(words: &[u64], granules: usize, index: usize) -> Hit
         }
         bits = words[at];
     }
-    hit_below(granules, at * 64 + first_bit(bits))
+    hit_below(granules, at * realm_words::WORD_GRANULES + first_bit(bits))
 }

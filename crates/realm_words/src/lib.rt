@@ -6,6 +6,9 @@ ghost use lib.Count.{ones};
 ghost use Rattle.realm_words.specs.Bits.{realmBit, packed, wordsFor, withBit};
 ghost use Rattle.realm_words.specs.Answers.{countCode, agreeCode, buildCode, wordsFit, bothFit, wordsCode, tableCode, realmCountOf, realmAgreeOf, Built, realmBuildOf};
 
+// Granules of one realm word: one bit each.
+pub const WORD_GRANULES: usize = 64;
+
 // The number of Realm granules, or INVAL.
 pub enum Number {
     Inval,
@@ -30,10 +33,10 @@ pub enum Agreement {
 fn words_for(granules: usize) -> usize
     ensures { λ r. ⌜ r ≡ wordsFor granules ⌝ }
 {
-    if granules % 64 == 0 {
-        return granules / 64;
+    if granules % WORD_GRANULES == 0 {
+        return granules / WORD_GRANULES;
     }
-    granules / 64 + 1
+    granules / WORD_GRANULES + 1
 }
 
 // Whether there are ceil(granules / 64) words: the first check of every call on words.
@@ -77,7 +80,7 @@ fn realm_bit(byte: u8) -> u64
 pub fn with_bit(w: u64, index: usize, byte: u8) -> u64
     ensures { λ r. ⌜ r ≡ withBit w (index % 64) (realmBit byte) ⌝ }
 {
-    let k = index % 64;
+    let k = index % WORD_GRANULES;
     let bit = realm_bit(byte);
     let unit = 1u64 << k;
     w - (w & unit) + (bit << k)
@@ -93,12 +96,12 @@ pub fn count(words: &[u64], granules: usize) -> Number
     if !words_fit(words, granules) {
         return Number::Inval;
     }
-    let whole = granules / 64;
+    let whole = granules / WORD_GRANULES;
     let mut sum: u64 = 0;
     for at in 0..whole {
         sum += ones_in(words[at]);
     }
-    let rest = granules % 64;
+    let rest = granules % WORD_GRANULES;
     if rest == 0 {
         return Number::Count(sum);
     }
@@ -136,7 +139,7 @@ fn word_from(table: &[u8], index: usize) -> u64
     requires { ⌜ index ≤ length (now table) ⌝ }
     ensures { λ r. ⌜ r ≡ packed (take 64 (drop index (now (table .entry)))) ⌝ }
 {
-    if table.len() - index < 64 {
+    if table.len() - index < WORD_GRANULES {
         return packed_of(&table[index..]);
     }
     octet(table, index)
@@ -171,7 +174,7 @@ pub fn agrees(table: &[u8], words: &[u64], granules: usize) -> Agreement
         return Agreement::Inval;
     }
     for i in 0..words.len() {
-        if words[i] != word_from(table, i * 64) {
+        if words[i] != word_from(table, i * WORD_GRANULES) {
             return Agreement::No;
         }
     }
@@ -187,7 +190,7 @@ pub fn build(table: &[u8], words: &mut [u64], granules: usize) -> bool
         return false;
     }
     for i in 0..words.len() {
-        words[i] = word_from(table, i * 64);
+        words[i] = word_from(table, i * WORD_GRANULES);
     }
     true
 }

@@ -4,6 +4,7 @@ use codes::Code;
 use queue::Queue;
 use queue::QueueResult;
 use queue::Response;
+use queue_image::QueueImage;
 ghost use mathlib.Core.Path.{_≡_};
 ghost use Prim.Native.Nat.{_+_, _≤_};
 ghost use lib.ListN.{length};
@@ -14,6 +15,15 @@ ghost use Rattle.response_rules.specs.Pull.{responseBytes, pullCode, pullOf};
 ghost use Rattle.response_rules.specs.Sign.{signCode, signOf, signExit};
 ghost use Rattle.response_rules.specs.OnImage.{pullOn, SignImage, signOn};
 
+// Offsets of the fields of a response in its buffer. The signature is last.
+const RESPONSE_GRANULE: usize = 0;
+
+const RESPONSE_TICKET: usize = 8;
+
+const RESPONSE_LENGTH: usize = 16;
+
+const RESPONSE_SIGNATURE: usize = 18;
+
 // Writes a response at the start of a buffer that is long enough.
 fn put_response(buffer: &mut [u8], response: Response)
     requires { ⌜ 18 + length (signedIn response .signature) ≤ length (now buffer) ⌝ }
@@ -21,10 +31,10 @@ fn put_response(buffer: &mut [u8], response: Response)
 {
     let n = queue::signature_len(response);
     let signature = response.signature;
-    words::put_word(buffer, 0, response.granule);
-    words::put_word(buffer, 8, response.ticket);
-    words::put_u16(buffer, 16, n as u64);
-    words::copy(&mut buffer[18..], &signature[..n]);
+    words::put_word(buffer, RESPONSE_GRANULE, response.granule);
+    words::put_word(buffer, RESPONSE_TICKET, response.ticket);
+    words::put_u16(buffer, RESPONSE_LENGTH, n as u64);
+    words::copy(&mut buffer[RESPONSE_SIGNATURE..], &signature[..n]);
 }
 
 // Returns the code of the pull checks for a buffer of `size` bytes, `waiting` responses and an oldest signature of `len` bytes.
@@ -35,7 +45,7 @@ fn pull_code(size: usize, waiting: usize, len: usize) -> Code
     if waiting == 0 {
         return Code::Again;
     }
-    if size < 18 + len {
+    if size < RESPONSE_SIGNATURE + len {
         return Code::Inval;
     }
     Code::Ok
@@ -70,7 +80,7 @@ fn response_of(granule: u64, ticket: u64, signature: &[u8]) -> Response
     requires { ⌜ length (now signature) ≤ 104 ⌝ }
     ensures { λ r. ⌜ signedIn r ≡ record { granule = granule; ticket = ticket; signature = now (signature .entry) } ⌝ }
 {
-    let mut bytes = [0u8; 104];
+    let mut bytes = [0u8; queue::SIGNATURE_BYTES];
     words::copy(&mut bytes, signature);
     Response {
         granule,
@@ -87,13 +97,13 @@ fn sign_code(signature: &[u8], requests: usize, responses: usize) -> Code
     if signature.len() == 0 {
         return Code::Inval;
     }
-    if 104 < signature.len() {
+    if queue::SIGNATURE_BYTES < signature.len() {
         return Code::Inval;
     }
     if requests == 0 {
         return Code::Again;
     }
-    if 8 <= responses {
+    if queue::PLACES <= responses {
         return Code::Again;
     }
     Code::Ok
@@ -126,7 +136,7 @@ pub fn sign(queue: Queue, signature: &[u8]) -> QueueResult
 }
 
 // Pull on the queue's image: all checks run before the first word is copied, and only the responses' side changes.
-pub fn pull_image(buffer: &mut [u8], image: &mut [u64; 210]) -> Answer
+pub fn pull_image(buffer: &mut [u8], image: &mut QueueImage) -> Answer
     ensures { λ r. ⌜ _≡_ {A = ImageStep} (record { answer = r; page = now (buffer .exit); image = now (image .exit) }) (pullOn (now (buffer .entry)) (now (image .entry))) ⌝ }
 {
     let waiting = queue_image::responses_waiting(image);
@@ -141,7 +151,7 @@ pub fn pull_image(buffer: &mut [u8], image: &mut [u64; 210]) -> Answer
 }
 
 // The signer's own step on the queue's image.
-pub fn sign_image(image: &mut [u64; 210], signature: &[u8]) -> Answer
+pub fn sign_image(image: &mut QueueImage, signature: &[u8]) -> Answer
     ensures { λ r. ⌜ _≡_ {A = SignImage} (record { answer = r; image = now (image .exit) }) (signOn (now (image .entry)) (now (signature .entry))) ⌝ }
 {
     let requests = queue_image::requests_waiting(image);

@@ -16,15 +16,24 @@ ghost use Rattle.codes.specs.Codes.{numberOf, bootParams, answerOf, gated};
 ghost use Rattle.token_rules.specs.Token.{listed, bufferCode, startCode, beginOf, tokenExit, sendOf, tokenOf};
 ghost use Rattle.token_rules.specs.Token.{challengeOf, challengeSpan, challengeNumber};
 
+// The sizes of a challenge, in bytes.
+const CHALLENGE_NONE: u64 = 0;
+
+const CHALLENGE_SHA256: u64 = 32;
+
+const CHALLENGE_SHA384: u64 = 48;
+
+const CHALLENGE_SHA512: u64 = 64;
+
 // Whether `csize` is 0, 32, 48 or 64.
 fn is_listed(csize: u64) -> bool
     ensures { λ r. ⌜ r ≡ listed csize ⌝ }
 {
     match csize {
-        0 => true,
-        32 => true,
-        48 => true,
-        64 => true,
+        CHALLENGE_NONE => true,
+        CHALLENGE_SHA256 => true,
+        CHALLENGE_SHA384 => true,
+        CHALLENGE_SHA512 => true,
         _ => false,
     }
 }

@@ -8,6 +8,11 @@ ghost use Rattle.tpm.specs.declared.TpmSession.the-variants.{None};
 ghost use Rattle.tpm.specs.ReturnCodes.{hcallNumber, isSuccess};
 ghost use Rattle.tpm.specs.Comm.{bufferChecks, buffersChecks, requestCode, stepLeft, commOf, tpmRequest, tpmRequestSpan};
 
+// The most bytes of a request, and the fewest of the buffer for the response.
+const IN_SIZE_MOST: u64 = 4096;
+
+const OUT_SIZE_LEAST: u64 = 4096;
+
 // The return codes of H_TPM_COMM, without their H_ (TP3).
 pub enum ReturnCode {
     Success,
@@ -116,8 +121,8 @@ fn buffers_check(asked: Arguments, n: u64) -> ReturnCode
     let insize = asked.insize;
     let outbuffer = asked.outbuffer;
     let outsize = asked.outsize;
-    let large = 4096 < insize;
-    let small = outsize < 4096;
+    let large = IN_SIZE_MOST < insize;
+    let small = outsize < OUT_SIZE_LEAST;
     let input = buffer_check(ReturnCode::P2, ReturnCode::P3, large, inbuffer, insize, n);
     if !is_success(input) {
         return input;

@@ -39,7 +39,11 @@ fn put_section(page: &mut [u8], e: Edition, k: u8, pointer: u64, words: &[u64], 
         return next;
     }
     let three = section_words(k as usize, pointer, words, total);
-    words::put_words(page, 16 + 24 * (k as usize), &three);
+    words::put_words(
+        page,
+        sections::CORE_COUNT + sections::SECTION_BYTES * (k as usize),
+        &three,
+    );
     next
 }
 

@@ -192,10 +192,10 @@ pub fn room_ok(
 ) -> bool
     ensures { λ r. ⌜ r ≡ leb (used (e .minor) (descriptionOf (now (dram .entry)) (now (console .entry)) (now (ncoh .entry)) (now (coh .entry)) (now (fields .entry)))) 4096 ⌝ }
 {
-    if 4096 < fields.len() {
+    if words::PAGE_LEN < fields.len() {
         return false;
     }
-    let left = 4096 - (e.core_size() as usize);
+    let left = words::PAGE_LEN - (e.core_size() as usize);
     let marked = marked_size(fields);
     if left < marked {
         return false;
