@@ -23,7 +23,7 @@ pub record PageShown (r base : ℕ) (page : List ℕ) (w e : ℕ) (q : PlatShown
   pub entries : (k : ℕ) → k < sectionCount e → (countAt k page ≡ 0 → ⊥) →
       s k ≡ full (shownWords w k (wordsAt k (countAt k page) (pointerAt k page - base) page))
       (part (pointerAt k page - base) (size k (countAt k page)) page)
-  -- word j of entry i is the page's own word
+  -- word j of entry i is the page's own word, except a console's flags (word 5) from minor 5 on
   pub words : (k i j : ℕ) → k < sectionCount e → i < countAt k page → j < wordsPerEntry k → (k ≡ 1 → j ≡ 5 → w ≤ 4) →
       entryWord k i j (s k) ≡ wordAt (pointerAt k page - base + 8 * (wordsPerEntry k * i + j)) page
   -- Request E3: from minor 5 on "the console is shown and listed with flags 0" (RD11)

@@ -38,7 +38,8 @@ fn is_listed(csize: u64) -> bool
     }
 }
 
-// Checks record, page, platform and buffer; returns the buffer's offset in the page.
+// Checks the record, the page's length `len`, `busy`, the buffer of `size` bytes at `pa`, then `csize` (RT6, RT7, CM5.2 to CM5.6). Returns
+// the buffer's offset in the page, or the code of the first check that fails.
 fn buffer_of(state: Record, len: usize, busy: bool, pa: u64, size: u64, csize: u64) -> Gate
     ensures { λ r. ⌜ r ≡ gated (bufferCode state len busy pa size csize) (placeOf (bootParams state) pa) ⌝ }
 {
