@@ -1,6 +1,7 @@
 // Delegation. The granule table has one byte for each granule of the record's banks: 0 Non-secure, 1 Realm, 2 Root, 3 Secure. The realm
 // words have one bit for each granule.
 use banks::Granule;
+use banks::GranulesImage;
 use boot::Params;
 use boot::Record;
 use codes::Answer;
@@ -56,7 +57,7 @@ fn put_bit(words: &mut [u64], index: usize, byte: u8)
     requires { ⌜ index / 64 < length (now words) ⌝ }
     ensures { λ _. ⌜ now (words .exit) ≡ putBit (now (words .entry)) index (realmBit byte) ⌝ }
 {
-    let at = index / 64;
+    let at = index / realm_words::WORD_GRANULES;
     words[at] = realm_words::with_bit(words[at], index, byte);
 }
 
@@ -107,7 +108,7 @@ fn table_fits(count: u64, n: usize) -> bool
 
 fn move_one(
     state: Record,
-    granules: &[u64; 33],
+    granules: &GranulesImage,
     direction: Direction,
     table: &mut [u8],
     words: &mut [u64],
@@ -135,7 +136,7 @@ fn move_one(
 // ---- the shortcut for a single call: most boards have one bank ----
 
 // Whether the boot record is up, the granule record has one bank of `n` granules, and the number of words is right.
-fn takes_shortcut(state: Record, granules: &[u64; 33], n: usize, words: &[u64]) -> bool
+fn takes_shortcut(state: Record, granules: &GranulesImage, n: usize, words: &[u64]) -> bool
     ensures { λ r. ⌜ r ≡ both (isUp state) (both (hasOneBank (now (granules .entry)) n) (wordsFit (now (words .entry)) n)) ⌝ }
 {
     if !codes::is_up(state) {
@@ -150,7 +151,7 @@ fn takes_shortcut(state: Record, granules: &[u64; 33], n: usize, words: &[u64]) 
 // `move_one` without loops over the banks.
 fn move_shortcut(
     state: Record,
-    granules: &[u64; 33],
+    granules: &GranulesImage,
     direction: Direction,
     table: &mut [u8],
     words: &mut [u64],
@@ -170,7 +171,7 @@ fn move_shortcut(
 // that all of them share.
 fn move_each(
     params: Params,
-    granules: &[u64; 33],
+    granules: &GranulesImage,
     direction: Direction,
     table: &mut [u8],
     words: &mut [u64],
@@ -198,7 +199,7 @@ fn move_each(
 // not up.
 fn move_list(
     state: Record,
-    granules: &[u64; 33],
+    granules: &GranulesImage,
     direction: Direction,
     table: &mut [u8],
     words: &mut [u64],
@@ -229,7 +230,7 @@ fn move_list(
 // 0xC40001B0: makes the granule at `address` Realm, if it is Non-secure.
 pub fn delegate(
     state: Record,
-    granules: &[u64; 33],
+    granules: &GranulesImage,
     table: &mut [u8],
     words: &mut [u64],
     address: u64,
@@ -247,7 +248,7 @@ pub fn delegate(
 // 0xC40001B1: makes the granule at `address` Non-secure, if it is Realm.
 pub fn undelegate(
     state: Record,
-    granules: &[u64; 33],
+    granules: &GranulesImage,
     table: &mut [u8],
     words: &mut [u64],
     address: u64,
@@ -279,7 +280,7 @@ pub fn undelegate(
 // Delegates the granules at `addresses` in order, up to the first refusal; x1 is the number delegated.
 pub fn delegate_list(
     state: Record,
-    granules: &[u64; 33],
+    granules: &GranulesImage,
     table: &mut [u8],
     words: &mut [u64],
     addresses: &[u64],
@@ -299,7 +300,7 @@ pub fn delegate_list(
 // Undelegates the granules at `addresses` in order, up to the first refusal; x1 is the number undelegated.
 pub fn undelegate_list(
     state: Record,
-    granules: &[u64; 33],
+    granules: &GranulesImage,
     table: &mut [u8],
     words: &mut [u64],
     addresses: &[u64],

@@ -59,7 +59,7 @@ fn array_of(page: &[u8], k: u8) -> &[u8]
     requires { ⌜ (Movable (now page) k) × (length (now page) ≡ 4096) ⌝ }
     ensures { λ r. ⌜ now r ≡ bytesOf (arrayWordsIn (now (page .entry)) k) ⌝ }
 {
-    let at = (sections::pointer_at(page, k) % 4096) as usize;
+    let at = (sections::pointer_at(page, k) % words::PAGE_SIZE) as usize;
     let end = at + array_size(page, k);
     &page[at..end]
 }
@@ -88,7 +88,11 @@ fn put_sections(page: &[u8], first: u64, n: u8, target: &mut [u8])
     let mut pointer = first;
     for k in 0..n {
         let three = section_words(page, k, pointer);
-        words::put_words(target, 16 + 24 * (k as usize), &three);
+        words::put_words(
+            target,
+            sections::CORE_COUNT + sections::SECTION_BYTES * (k as usize),
+            &three,
+        );
         pointer += array_size(page, k) as u64;
     }
 }
@@ -111,11 +115,11 @@ fn put_arrays(page: &[u8], from: usize, n: u8, target: &mut [u8]) -> usize
 fn fields_place(page: &[u8]) -> usize
     ensures { λ r. ⌜ r ≡ fieldsPlace (now (page .entry)) ⌝ }
 {
-    let plat = words::word_at(page, 8);
+    let plat = words::word_at(page, sections::CORE_PLAT_DATA);
     if plat == 0 {
         return page.len();
     }
-    (plat % 4096) as usize
+    (plat % words::PAGE_SIZE) as usize
 }
 
 // Copies the fields that start at `from` in the page to offset `at` of the target, without the withdrawn ones. Returns the offset after them. Copies
@@ -187,7 +191,7 @@ pub fn pack(page: &[u8], base: u64, target: &mut [u8]) -> Packing
             if 4 < minor {
                 return Packing::Refused(Refusal::Version);
             }
-            if target.len() != 4096 {
+            if target.len() != words::PAGE_LEN {
                 return Packing::Target;
             }
             put_page(page, base, Edition { minor }, target);
