@@ -1,6 +1,7 @@
 // Delegation. The granule table has one byte for each granule of the record's banks: 0 Non-secure, 1 Realm, 2 Root, 3 Secure. The realm
 // words have one bit for each granule.
 use banks::Granule;
+use banks::GranulesImage;
 use boot::Params;
 use boot::Record;
 use codes::Answer;
@@ -56,7 +57,7 @@ fn put_bit(words: &mut [u64], index: usize, byte: u8)
     requires { ⌜ index / 64 < length (now words) ⌝ }
     ensures { λ _. ⌜ now (words .exit) ≡ putBit (now (words .entry)) index (realmBit byte) ⌝ }
 {
-    let at = index / 64;
+    let at = index / realm_words::WORD_GRANULES;
     words[at] = realm_words::with_bit(words[at], index, byte);
 }
 
@@ -124,7 +125,7 @@ fn shared_code(state: Record, granules: &[u64; 33], n: usize, words: &[u64]) -> 
 
 fn move_one(
     state: Record,
-    granules: &[u64; 33],
+    granules: &GranulesImage,
     direction: Direction,
     table: &mut [u8],
     words: &mut [u64],
@@ -145,7 +146,7 @@ fn move_one(
 // ---- the shortcut for a single call: most boards have one bank ----
 
 // Whether the boot record is up, the granule record has one bank of `n` granules, and the number of words is right.
-fn takes_shortcut(state: Record, granules: &[u64; 33], n: usize, words: &[u64]) -> bool
+fn takes_shortcut(state: Record, granules: &GranulesImage, n: usize, words: &[u64]) -> bool
     ensures { λ r. ⌜ r ≡ both (isUp state) (both (hasOneBank (now (granules .entry)) n) (wordsFit (now (words .entry)) n)) ⌝ }
 {
     if !codes::is_up(state) {
@@ -160,7 +161,7 @@ fn takes_shortcut(state: Record, granules: &[u64; 33], n: usize, words: &[u64]) 
 // `move_one` without loops over the banks.
 fn move_shortcut(
     state: Record,
-    granules: &[u64; 33],
+    granules: &GranulesImage,
     direction: Direction,
     table: &mut [u8],
     words: &mut [u64],
@@ -180,7 +181,7 @@ fn move_shortcut(
 // that they share.
 fn move_each(
     params: Params,
-    granules: &[u64; 33],
+    granules: &GranulesImage,
     direction: Direction,
     table: &mut [u8],
     words: &mut [u64],
@@ -217,7 +218,7 @@ fn move_none(granules: &[u64; 33], words: &[u64]) -> Answer
 
 fn move_list(
     state: Record,
-    granules: &[u64; 33],
+    granules: &GranulesImage,
     direction: Direction,
     table: &mut [u8],
     words: &mut [u64],
@@ -241,7 +242,7 @@ fn move_list(
 // 0xC40001B0 (CM2): makes the granule at `address` Realm, if it is Non-secure.
 pub fn delegate(
     state: Record,
-    granules: &[u64; 33],
+    granules: &GranulesImage,
     table: &mut [u8],
     words: &mut [u64],
     address: u64,
@@ -259,7 +260,7 @@ pub fn delegate(
 // 0xC40001B1 (CM3): makes the granule at `address` Non-secure, if it is Realm.
 pub fn undelegate(
     state: Record,
-    granules: &[u64; 33],
+    granules: &GranulesImage,
     table: &mut [u8],
     words: &mut [u64],
     address: u64,
@@ -291,7 +292,7 @@ pub fn undelegate(
 // Delegates the granules at `addresses` in order, up to the first refusal; x1 is the number delegated (LG1 to LG3).
 pub fn delegate_list(
     state: Record,
-    granules: &[u64; 33],
+    granules: &GranulesImage,
     table: &mut [u8],
     words: &mut [u64],
     addresses: &[u64],
@@ -311,7 +312,7 @@ pub fn delegate_list(
 // Undelegates the granules at `addresses` in order, up to the first refusal; x1 is the number undelegated (LG1 to LG3).
 pub fn undelegate_list(
     state: Record,
-    granules: &[u64; 33],
+    granules: &GranulesImage,
     table: &mut [u8],
     words: &mut [u64],
     addresses: &[u64],

@@ -65,7 +65,7 @@ fn array_of(page: &[u8], k: u8, count: u64, pointer: u64) -> &[u8]
     requires { ⌜ (Movable (now page) k) × (length (now page) ≡ 4096) × (count ≡ countAt k (now page)) × (pointer ≡ pointerAt k (now page)) ⌝ }
     ensures { λ r. ⌜ now r ≡ bytesOf (arrayWordsIn (now (page .entry)) k) ⌝ }
 {
-    let at = (pointer % 4096) as usize;
+    let at = (pointer % words::PAGE_SIZE) as usize;
     let end = at + array_size(k, count);
     &page[at..end]
 }
@@ -94,7 +94,11 @@ fn put_sections(page: &[u8], core: &[u8], first: u64, n: u8, target: &mut [u8])
     let mut pointer = first;
     for k in 0..n {
         let three = section_words(page, core, k, pointer);
-        words::put_words(target, 16 + 24 * (k as usize), &three);
+        words::put_words(
+            target,
+            sections::CORE_COUNT + sections::SECTION_BYTES * (k as usize),
+            &three,
+        );
         pointer += array_size(k, sections::count_at(core, k)) as u64;
     }
 }
@@ -120,11 +124,11 @@ fn fields_place(page: &[u8], core: &[u8]) -> usize
     requires { ⌜ Copied (now core) (now page) ⌝ }
     ensures { λ r. ⌜ r ≡ fieldsPlace (now (page .entry)) ⌝ }
 {
-    let plat = words::word_at(core, 8);
+    let plat = words::word_at(core, sections::CORE_PLAT_DATA);
     if plat == 0 {
         return page.len();
     }
-    (plat % 4096) as usize
+    (plat % words::PAGE_SIZE) as usize
 }
 
 // Copies the fields that start at `from` in the page to offset `at` of the target, without the withdrawn ones. Returns the offset after them. Copies
@@ -197,7 +201,7 @@ pub fn pack(page: &[u8], base: u64, target: &mut [u8]) -> Packing
             if 4 < minor {
                 return Packing::Refused(Refusal::Version);
             }
-            if target.len() != 4096 {
+            if target.len() != words::PAGE_LEN {
                 return Packing::Target;
             }
             put_page(page, &core, base, Edition { minor }, target);

@@ -22,11 +22,11 @@ enum-told c = search needs
 sub-push-image : tie.Need-sub-push-image
 sub-push-image c = search needs
 
-part-push-on-start : tie.Need-part-push-on-start
-part-push-on-start c = search needs
+part-push-image-start : tie.Need-part-push-image-start
+part-push-image-start c = search needs
 
-part-push-on-end : tie.Need-part-push-on-end
-part-push-on-end c = search needs
+part-push-image-end : tie.Need-part-push-image-end
+part-push-image-end c = search needs
 
 push-image-requires : tie.Need-push-image-requires
 push-image-requires c κs = search needs
@@ -37,11 +37,11 @@ enum-told-2 c = search needs
 sub-pull-image : tie.Need-sub-pull-image
 sub-pull-image c = search needs
 
-part-pull-on-start : tie.Need-part-pull-on-start
-part-pull-on-start c = search needs
+part-pull-image-start : tie.Need-part-pull-image-start
+part-pull-image-start c = search needs
 
-part-pull-on-end : tie.Need-part-pull-on-end
-part-pull-on-end c = search needs
+part-pull-image-end : tie.Need-part-pull-image-end
+part-pull-image-end c = search needs
 
 pull-image-requires : tie.Need-pull-image-requires
 pull-image-requires c κs = search needs
@@ -116,13 +116,13 @@ serve-image-spec =
     add-end
     enum-told
     sub-push-image
-    part-push-on-start
-    part-push-on-end
+    part-push-image-start
+    part-push-image-end
     push-image-requires
     enum-told-2
     sub-pull-image
-    part-pull-on-start
-    part-pull-on-end
+    part-pull-image-start
+    part-pull-image-end
     pull-image-requires
     enum-told-3
     sub-put-key
