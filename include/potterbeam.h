@@ -22,7 +22,8 @@
  * - size_t has 64 bits, which the header asserts: the archives are for x86-64 and AArch64 (LP64). On a 32-bit target the prototypes would
  *   not match the library, and PBEAM_CONSOLE_NONE would not fit a size_t.
  * - GCC and Clang warn of a NULL for an image, and of a result that is not used where nothing else tells the caller whether the call wrote
- *   anything (PBEAM_MUST_CHECK). GCC warns if memory that a call writes is passed for another argument, too (-Wrestrict, in -Wall).
+ *   anything (PBEAM_MUST_CHECK). GCC warns if memory that a call writes is passed for another argument, too (-Wrestrict, in -Wall);
+ *   as C++ only of pointers to bytes and lists, not of images.
  * - Header and archive have the same version, or the program does not link: see potterbeam_common.h.
  * - "Stack" is the most that a call was seen to write on x86-64, accepted or refused, rounded up to a multiple of 32, with its return
  *   address and the words that its caller passes on the stack. It is measured (rust/tests/stack.rs), not proved. All fit in 1 KiB.
@@ -50,15 +51,18 @@
  *   every command except 0xC400018F answers PBEAM_X0_UNK. EL3 compares all 64 bits of x1 with 0. It accepts RMM_BOOT_COMPLETE only from a CPU
  *   that is booting, which is one that EL3 entered for a boot and that has not made this call since, and from no CPU after an
  *   error, also with x1 = 0; otherwise it answers PBEAM_X0_UNK and changes nothing.
- * The page. During a call no other CPU and no other world may write it. 002 gives it to the Realm world and makes the monitor responsible
- *   for its use by one CPU at a time; EL3 still needs its own lock, for record, session, queue, table and words ("One lock" below).
- *   The promises for a call hold only if the page does not change during the call.
+ * The page. 002 gives it to the Realm world and makes the monitor responsible for its use by one CPU at a time; EL3 cannot enforce it.
+ *   If the page changes during a call, the call still touches only lent memory (tested: tests/c/race.c). The codes, registers, next
+ *   session, next queue and table of every runtime command except a push do not depend on the page's bytes (proved: `exports-unread`); a
+ *   push reads its request once and judges that copy. What pbeam_read, the lookups, pbeam_listing and pbeam_cold_boot return holds for a
+ *   page that stays still. EL3 still needs its own lock, for record, session, queue, table and words ("One lock" below).
  * One lock. If more than one CPU runs, EL3 has one lock. A lock around each call of the library alone is too little; one lock spans
  *   - a command: copies of what the monitor can write, the call, and the change in hardware that it asks for;
  *   - a start of a platform token: pbeam_challenge, the copy of the challenge, the choice of the token, and the call;
  *   - a signature: pbeam_oldest, the making of the signature, and pbeam_sign, unless there is only one signer;
  *   - a boot of EL3's record, and RMM_BOOT_COMPLETE with pbeam_close: they write the record that all commands read;
- *   - pbeam_realm_count, pbeam_realm_next and pbeam_realm_agrees, which read what delegation writes.
+ *   - pbeam_realm_count, pbeam_realm_next and pbeam_realm_agrees, which read what delegation writes, and pbeam_responses, which reads the
+ *     queue.
  *   Release it before the monitor runs on this CPU. examples/qemu/el3.c and examples/c/boot_to_token.c do all of it.
  * Copies. EL3 cannot stop the monitor on another CPU from writing memory that it shares with it. So EL3 reads a list of addresses and
  *   the challenge once, into its own memory, and uses only the copies: in the call of the library and in its own steps.
@@ -70,6 +74,8 @@
  *   own values there, and in x5 to x17 (SMCCC).
  * 0xC400018F does not return to the monitor, so `out` is not used. The Non-secure world gets x0 to x4 (002). 002 names only err_code, which
  *   is the value of `work`: put it into x0. Which of the monitor's registers go into x1 to x4 is up to the platform; we suggest x2 to x5.
+ *   EL3 forwards only from a CPU whose boot is complete; from any other it answers PBEAM_X0_UNK, since no call of the Non-secure world is
+ *   under way there.
  * Forged images. Any words are accepted, and no call reads or writes more than it is lent; but an answer is only as true as the words.
  *   - A record that is up is trusted: B defines which addresses are in the page, the kept bytes which of them are free, the minor which
  *     commands exist. None of the three is checked; with more than 4,095 kept bytes every buffer is outside.

@@ -14,7 +14,8 @@
  *   library allocates nothing and keeps nothing between calls. It needs only memcpy, memmove and memset.
  * - A page is a pointer and a count of bytes; the pointer may be NULL only if the count is 0. `changed` is never NULL. A page needs no
  *   alignment in memory; words (uint64_t) have C's alignment.
- * - page, target and changed must not overlap. There is no lock: use one page in one call at a time.
+ * - page, target and changed must not overlap. There is no lock: use one page in one call at a time. The page must stay still during a
+ *   call: otherwise the call stays inside lent memory (tested), but target or page may be one that no reader accepts.
  * - The first check that fails decides the answer. The checks are listed below in their order.
  * - size_t has 64 bits, which the header asserts: the archives are for x86-64 and AArch64 (LP64).
  * - "Stack" is the most that a call was seen to write on x86-64, and after "AArch64" a static bound of the archive that tools/aarch64

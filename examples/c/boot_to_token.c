@@ -64,10 +64,11 @@ static struct {
     size_t lent;             /* which of them is lent */
     uint64_t list[GUEST_GRANULES]; /* the copy of a list of addresses */
     bool booting[CPUS];      /* entered by a boot, and RMM_BOOT_COMPLETE not yet called */
-    uint64_t non_secure[5];  /* x0 to x4 of the Non-secure world */
+    bool booted[CPUS];       /* its boot is complete: it may serve the Non-secure world */
+    uint64_t non_secure[CPUS][5]; /* x0 to x4 of the Non-secure world, by CPU */
 } el3;
 
-/* A spin lock, for all of `el3` and for what the hardware has of it. On AArch64 it needs the MMU: see examples/qemu/lock.c. */
+/* A spin lock, for all of `el3` and for what the hardware has of it; before the first boot only one CPU runs, and it is not taken. On AArch64 it needs the MMU: see examples/qemu/lock.c. */
 static atomic_flag el3_taken = ATOMIC_FLAG_INIT;
 
 static void el3_lock(void)
@@ -154,8 +155,10 @@ static bool el3_boot_complete(uint64_t cpu, uint64_t x1)
     bool accepted;
     el3_lock();
     accepted = el3.booting[cpu] && pbeam_record_is_up(&el3.context.record);
-    if (accepted)
+    if (accepted) {
         el3.booting[cpu] = false;
+        el3.booted[cpu] = x1 == E_RMM_BOOT_SUCCESS;
+    }
     if (accepted && x1 != E_RMM_BOOT_SUCCESS)
         pbeam_record_close(&el3.context.record);
     printf("EL3: boot complete of CPU %" PRIu64 ": %s\n", cpu, accepted ? el3_code_text(x1) : "not accepted");
@@ -196,10 +199,10 @@ static void el3_hand_over(uint64_t x[6])
 }
 
 /* RMM_RMI_REQ_COMPLETE: the Non-secure world goes on, with err_code and what the monitor has in x2 to x5. */
-static void el3_return_to_non_secure(const pbeam_work_t *work, const uint64_t x[6])
+static void el3_return_to_non_secure(uint64_t cpu, const pbeam_work_t *work, const uint64_t x[6])
 {
-    el3.non_secure[0] = pbeam_work_value(work);
-    memcpy(el3.non_secure + 1, x + 2, 4 * sizeof x[0]);
+    el3.non_secure[cpu][0] = pbeam_work_value(work);
+    memcpy(el3.non_secure[cpu] + 1, x + 2, 4 * sizeof x[0]);
 }
 
 /* An SMC of the monitor on a CPU: x0 to x5 as it made it. Afterwards x0 to x2 are the answer; x3 to x5 stay the monitor's. */
@@ -221,6 +224,11 @@ static void el3_smc(uint64_t cpu, uint64_t x[6])
     }
     /* One lock for the challenge, the call and the hardware. */
     el3_lock();
+    if (x[0] == RMM_RMI_REQ_COMPLETE && !el3.booted[cpu]) {
+        el3_unlock();
+        x[0] = PBEAM_X0_UNK; /* no call of the Non-secure world is under way on this CPU */
+        return;
+    }
     is_new = x[0] == RMM_ATTEST_GET_PLAT_TOKEN && el3_choose_token(&call);
     pbeam_context_call(&el3.context, &call, &out, &work);
     if (is_new && pbeam_registers_code(&out) == E_RMM_OK)
@@ -228,7 +236,7 @@ static void el3_smc(uint64_t cpu, uint64_t x[6])
     el3_act(&call, &out, &work);
     el3_unlock();
     if (pbeam_work_is(&work, PBEAM_WORK_FORWARD)) {
-        el3_return_to_non_secure(&work, x);
+        el3_return_to_non_secure(cpu, &work, x);
         return; /* on a board: to the Non-secure world */
     }
     memcpy(x, out.words, sizeof out.words);
@@ -571,9 +579,11 @@ static bool monitor_token_in_manifest(void)
 /* The RMI call of the Non-secure world ends with RMI_SUCCESS (0) and two results. */
 static bool monitor_complete_rmi(void)
 {
+    const uint64_t *x;
     monitor_smc(pbeam_call_of(RMM_RMI_REQ_COMPLETE, 0, 0x1111, 0x2222, 0), 0);
-    printf("Non-secure: x0 %" PRIu64 ", x1 0x%" PRIx64 ", x2 0x%" PRIx64 "\n", el3.non_secure[0], el3.non_secure[1], el3.non_secure[2]);
-    return el3.non_secure[1] == 0x1111 && el3.non_secure[2] == 0x2222;
+    x = el3.non_secure[monitor.cpu];
+    printf("Non-secure: x0 %" PRIu64 ", x1 0x%" PRIx64 ", x2 0x%" PRIx64 "\n", x[0], x[1], x[2]);
+    return x[1] == 0x1111 && x[2] == 0x2222;
 }
 
 static bool monitor_push(uint64_t granule, uint64_t ticket)

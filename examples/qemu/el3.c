@@ -321,7 +321,12 @@ static struct context *locked_command(uint64_t cpu, struct context *from)
     const pbeam_call_t call = pbeam_call_of(from->x[0], from->x[1], from->x[2], from->x[3], from->x[4]);
     pbeam_registers_t out;
     pbeam_work_t work;
-    const bool is_new = from->x[0] == RMM_ATTEST_GET_PLAT_TOKEN && platform_choose_token(&el3.kit, &call, el3.quiet);
+    bool is_new;
+    if (from->x[0] == RMM_RMI_REQ_COMPLETE && el3.cpus[cpu] != CPU_BOOTED) {
+        from->x[0] = PBEAM_X0_UNK; /* no call of the Non-secure world is under way on a CPU that boots or whose boot failed */
+        return from;
+    }
+    is_new = from->x[0] == RMM_ATTEST_GET_PLAT_TOKEN && platform_choose_token(&el3.kit, &call, el3.quiet);
     pbeam_context_call(&el3.kit, &call, &out, &work);
     if (is_new && pbeam_registers_code(&out) == E_RMM_OK)
         platform_token_is_lent();

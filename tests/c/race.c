@@ -12,6 +12,9 @@
  * The second thread changes the shared memory alone. EL3's own images change only between calls: the header asks for a lock there.
  */
 #define _GNU_SOURCE
+/* What a call answers here does not matter, only what it touches. */
+#pragma GCC diagnostic ignored "-Wunused-result"
+
 #include <pthread.h>
 #include <signal.h>
 #include <stdatomic.h>
