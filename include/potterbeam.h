@@ -423,7 +423,7 @@ extern "C" {
  *                                  (no end mark in the page, tag 0 with a length, a length that tags 1 to 3 may not have, one of
  *                                  these twice) or share a byte with an array
  * Leaves   the page unchanged. view: what the page shows; refused: all zero.
- * Stack    256 bytes; AArch64 256
+ * Stack    320 bytes; AArch64 352
  * A later minor is never refused. Sections after e and bytes after the end mark are not read. Fields belong to every edition.
  * If another CPU writes the page during the call, the view still has only places that were judged, all within the page; which bytes its
  * entries and fields were judged by is then not known.
@@ -438,7 +438,7 @@ int32_t pbeam_read(const uint8_t *page, size_t page_len, uint64_t base, uint64_t
  * Writes   place: the part of the page that holds the array; (0, 0) if the page is refused, the section is absent or empty,
  *          or its number is above 3. pbeam_read returns why a page is refused.
  * Leaves   the page unchanged.
- * Stack    256 bytes; AArch64 288
+ * Stack    352 bytes; AArch64 384
  */
 PBEAM_NONNULL(6)
 void pbeam_array(const uint8_t *page, size_t page_len, uint64_t base, uint64_t edition, size_t section,
@@ -587,7 +587,7 @@ uint64_t pbeam_kept_for(const uint8_t *page, size_t page_len, const uint64_t vie
  * Leaves   the page unchanged. text: ASCII from its first byte, each line ended by '\n', no '\0' at the end; as much as fits. Bytes
  *          after the text are unchanged. For a refused page the text is one line, "refused -5", "refused -6" or
  *          "refused -7", with the code of pbeam_read.
- * Stack    576 bytes; AArch64 864
+ * Stack    544 bytes; AArch64 864
  * A field is its tag and the length of its value in decimal, and each byte of the value as two lower-case hex digits, separated by blanks;
  * the withdrawn one is "3 withdrawn".
  * A word is 0x and 16 lower-case hex digits, a console's name 16 such digits without 0x for its 8 bytes in order; the flags of a
@@ -635,7 +635,7 @@ uint32_t pbeam_write(uint64_t base, uint64_t edition, const uint64_t *dram, size
  *          PBEAM_MANIFEST_PLACE    K above 4,096
  *          PBEAM_MANIFEST_PLACE, PBEAM_MANIFEST_VERSION, PBEAM_MANIFEST_RULES  as pbeam_read
  * Leaves   the page unchanged. state: up, with x2, B, the agreed minor and K; refused: closed, permanently.
- * Stack    288 bytes; AArch64 256
+ * Stack    384 bytes; AArch64 384
  * The boot keeps no view. With K = 0 call pbeam_read before a command writes into the page. K need not cover the manifest; with K =
  * 4,096 every buffer is outside.
  * EL3 holds its lock for the call, and marks the CPU as booting under it.
