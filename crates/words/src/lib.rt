@@ -1,5 +1,7 @@
 // Little-endian numbers in a slice: reads 8-byte words, 4-byte halves, 2-byte numbers and bytes at any offset, writes 8, 4 or 2 bytes and
 // lists of words; copies, clears and cuts slices.
+#![tactic(auto)]
+
 ghost use Rattle.std.specs.Prelude.{◌≡◌, min, ◌+◌, ◌<◌, ◌≤◌, length, get_or, replicate};
 ghost use Rattle.words.specs.Word.{le_bytes, num_at, word_at, u32_at, bytes_of, splice, laid, span_at, spanned, span_start, on_from};
 ghost use Rattle.words.specs.Fast.{whole_word};
