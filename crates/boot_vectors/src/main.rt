@@ -8,7 +8,7 @@ use libc::STDOUT_FILENO;
 use words::Span;
 
 // The record after a step, and the offset of the next step.
-#[derive(Drop)]
+#[derive(Clone, Copy)]
 struct StepResult {
     next: Record,
     at: usize,

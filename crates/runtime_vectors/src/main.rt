@@ -15,7 +15,7 @@ use token::Session;
 use words::Span;
 
 // The session and the queue, which each operation passes to the next.
-#[derive(Drop)]
+#[derive(Clone, Copy)]
 struct State {
     session: Session,
     queue: Queue,
