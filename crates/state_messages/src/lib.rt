@@ -1,5 +1,7 @@
 // GET_STATEBLOB of swtpm's control channel: the request for a piece of a state blob and the response that carries one, read from and written to lent
 // slices. Every number has 4 bytes, big-endian. `kind` is the type of a blob.
+#![tactic(auto)]
+
 ghost use Rattle.std.specs.Prelude.{◌≡◌, ◌+◌, ◌≤◌, length, drop};
 ghost use Rattle.words.specs.Word.{splice, on_from};
 ghost use Rattle.big_words.specs.Big.{be_bytes, big_at};

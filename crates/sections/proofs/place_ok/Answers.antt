@@ -4,27 +4,26 @@ use Prim.Native.Nat.{◌-◌, ◌%◌, ◌^◌}
 use borrow.Author.Rules.{rules}
 use borrow.Author.Tests.{eq-eqb, ne_eqb, lt-leb, le-leb, lt-ltb, le-ltb}
 use native.Mathlib.Omega.{arith}
-use Rattle.sections.proofs.place_ok.Statement.{statement}
-use Rattle.sections.proofs.place_ok.Tie as tie
+use Rattle.sections.proofs.place_ok.Goals as goal
 
-returns : tie.Need-returns
+pub returns-then-n-ne-PAGE_LEN : goal.returns-then-n-ne-PAGE_LEN
 unfolding place_ok both
-returns c = let a = c.before.args in simp (ne_eqb a.n 4096 (search rules))
+returns-then-n-ne-PAGE_LEN c = let a = c.args in simp (ne_eqb a.n 4096 (search rules))
 
-returns-2 : tie.Need-returns-2
+pub returns-then-base-eq0 : goal.returns-then-base-eq0
 unfolding place_ok both
-returns-2 c = let a = c.before.before.args in simp (eq-eqb a.n 4096 (search rules), le-ltb (0) a.base (search rules))
+returns-then-base-eq0 c = let a = c.args in simp (eq-eqb a.n 4096 (search rules), le-ltb (0) a.base (search rules))
 
-returns-3 : tie.Need-returns-3
+pub returns-then-base-ne0 : goal.returns-then-base-ne0
 unfolding place_ok both
-returns-3 c =
-    let a = c.before.before.before.args in
+returns-then-base-ne0 c =
+    let a = c.args in
     simp (eq-eqb a.n 4096 (search rules), lt-ltb (0) a.base (search rules), ne_eqb (a.base % 4096) 0 (search rules))
 
-returns-4 : tie.Need-returns-4
+pub returns-then-base-gt-BASE_MOST : goal.returns-then-base-gt-BASE_MOST
 unfolding place_ok both
-returns-4 c =
-    let a = c.before.before.before.before.args in
+returns-then-base-gt-BASE_MOST c =
+    let a = c.args in
     simp (
       eq-eqb a.n 4096 (search rules),
       lt-ltb (0) a.base (search rules),
@@ -32,16 +31,13 @@ returns-4 c =
       lt-leb a.base (2 ^ 52 - 4096) (omega arith),
     )
 
-returns-5 : tie.Need-returns-5
+pub returns : goal.returns
 unfolding place_ok both
-returns-5 c =
-    let a = c.before.before.before.before.args in
+returns c =
+    let a = c.args in
     simp (
       eq-eqb a.n 4096 (search rules),
       lt-ltb (0) a.base (search rules),
       eq-eqb (a.base % 4096) 0 (search rules),
       le-leb a.base (2 ^ 52 - 4096) (omega arith),
     )
-
-pub place-ok-spec : {M : Type 1} → statement M
-place-ok-spec = tie.close (tie.spec returns returns-2 returns-3 returns-4 returns-5)
