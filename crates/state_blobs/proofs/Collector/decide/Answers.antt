@@ -5,43 +5,33 @@ use borrow.Author.Tests.{lt-ltb, le-ltb, eq-eqb, ne_eqb}
 use Rattle.words.specs.Tests.{both}
 use Rattle.state_blobs.specs.Collect.{other_total, decide}
 use borrow.Author.Rules.{rules}
-use Rattle.state_blobs.proofs.Collector.decide.Statement.{statement}
-use Rattle.state_blobs.proofs.Collector.decide.Tie as tie
+use Rattle.state_blobs.proofs.Collector.decide.Goals as goal
 
-bytes-held-requires : tie.Need-bytes-held-requires
-bytes-held-requires c κs = search rules
-
-add-end : tie.Need-overflow-add-end
-add-end c = search rules
-
-other-total-requires : tie.Need-other-total-requires
-other-total-requires c κs = search rules
-
-returns : tie.Need-returns
+pub returns-then-other_total : goal.returns-then-other_total
 unfolding decide
-returns c =
-    let a = c.before.before.before.args in
+returns-then-other_total c =
+    let a = c.args in
     let d : other_total a.self a.total ≡ true = (cc) in
     simp d
 
-returns-2 : tie.Need-returns-2
+pub returns-then-total-end : goal.returns-then-total-end
 unfolding decide
-returns-2 c =
-    let a = c.before.before.before.before.args in
+returns-then-total-end c =
+    let a = c.args in
     let d : other_total a.self a.total ≡ false = (cc) in
     simp (d, lt-ltb a.total (a.self.held + a.len) (search rules))
 
-returns-3 : tie.Need-returns-3
+pub returns-then-room-end : goal.returns-then-room-end
 unfolding decide
-returns-3 c =
-    let a = c.before.before.before.before.before.args in
+returns-then-room-end c =
+    let a = c.args in
     let d : other_total a.self a.total ≡ false = (cc) in
     simp (d, le-ltb a.total (a.self.held + a.len) (search rules), lt-ltb a.room (a.self.held + a.len) (search rules))
 
-returns-4 : tie.Need-returns-4
+pub returns-then-len-ne0 : goal.returns-then-len-ne0
 unfolding decide both
-returns-4 c =
-    let a = c.before.before.before.before.before.before.args in
+returns-then-len-ne0 c =
+    let a = c.args in
     let d : other_total a.self a.total ≡ false = (cc) in
     simp (
       d,
@@ -50,32 +40,18 @@ returns-4 c =
       ne_eqb a.len 0 (search rules),
     )
 
-returns-5 : tie.Need-returns-5
+pub returns-then-held-total : goal.returns-then-held-total
 unfolding decide both
-returns-5 c =
-    let a = c.before.before.before.before.before.before.before.args in
+returns-then-held-total c =
+    let a = c.args in
     let h = a.self.held in
     let d : other_total a.self a.total ≡ false = (cc) in
     simp (d, le-ltb a.total (h + a.len) (search rules), le-ltb a.room (h + a.len) (search rules), eq-eqb a.len 0 (search rules), lt-ltb h a.total (search rules))
 
-returns-6 : tie.Need-returns-6
+pub returns : goal.returns
 unfolding decide both
-returns-6 c =
-    let a = c.before.before.before.before.before.before.before.args in
+returns c =
+    let a = c.args in
     let h = a.self.held in
     let d : other_total a.self a.total ≡ false = (cc) in
     simp (d, le-ltb a.total (h + a.len) (search rules), le-ltb a.room (h + a.len) (search rules), eq-eqb a.len 0 (search rules), le-ltb h a.total (search rules))
-
-pub decide-spec : {M : Type 1} → statement M
-decide-spec =
-    tie.close
-    (tie.spec
-    bytes-held-requires
-    add-end
-    other-total-requires
-    returns
-    returns-2
-    returns-3
-    returns-4
-    returns-5
-    returns-6)
