@@ -2,28 +2,30 @@
 // the boot record (0 fresh, 1 up, 2 closed, then its four values), the function id, x1 to x3, the offset of the granule record (see
 // `vector_io::granules_at`), which the realm words follow, MECIDWidthm1, the lengths of table, key and page; then these three, and table and
 // page expected at exit. Prints the answer, whether both are as expected, and the realm words.
+#![tactic(auto)]
+
 ghost use Rattle.std.specs.Prelude.{◌≤◌, length};
 
 use boot::Record;
 use codes::{Answer, Work};
-use libc::STDOUT_FILENO;
+use vector_io::STDOUT;
 use words::Span;
 
 fn print_answer(answer: Answer) {
-    io::write_all(STDOUT_FILENO, b"registers");
+    io::write_all(STDOUT, b"registers");
     vector_io::print_word(answer.x0);
     vector_io::print_word(answer.x1);
     vector_io::print_word(answer.x2);
-    io::write_all(STDOUT_FILENO, b"\n");
+    io::write_all(STDOUT, b"\n");
 }
 
 fn print_work(work: Work) {
     let Work::Reprogram(mecid) = work else {
         return;
     };
-    io::write_all(STDOUT_FILENO, b"reprogram");
+    io::write_all(STDOUT, b"reprogram");
     vector_io::print_word(mecid);
-    io::write_all(STDOUT_FILENO, b"\n");
+    io::write_all(STDOUT, b"\n");
 }
 
 // Prints the answer of a command that takes neither table nor page.
@@ -39,9 +41,9 @@ fn print_other(state: Record, id: u64, x1: u64, width: u64) {
         print_work(work);
         return;
     }
-    io::write_all(STDOUT_FILENO, b"forward");
+    io::write_all(STDOUT, b"forward");
     vector_io::print_word(features::forward(state, x1));
-    io::write_all(STDOUT_FILENO, b"\n");
+    io::write_all(STDOUT, b"\n");
 }
 
 // Runs the command of a case on its table, key and page, and prints the answer.
@@ -123,10 +125,10 @@ fn print_case(input: &[u8]) {
     print_lent(input, &mut table[..t], &mut words[..w], k, &mut page[..n]);
 }
 
-fn main() {
+fn main(rt: HostRuntime) {
     let mut input = [0u8; 32768];
     for n in 0..1000u64 {
-        let length = vector_io::load(n, &mut input);
+        let length = vector_io::load(&rt, n, &mut input);
         if length == 0 {
             return;
         }

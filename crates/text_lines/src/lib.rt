@@ -1,6 +1,8 @@
 // Building blocks of the listing's lines. Each function writes text at an offset of a lent slice, as far as it fits, and returns the offset after the
 // text, even if that is past the end of the slice: so the last offset is the length of the whole text. specs/ defines the text; `field_text` and
 // `text` write its lines.
+#![tactic(auto)]
+
 ghost use Rattle.std.specs.Prelude.{◌+◌, min, ◌≡◌};
 ghost use Rattle.text_lines.specs.Text.{newline, decimal, hex_text, byte_text, name_text, gap_text, value_text};
 ghost use Rattle.text_lines.specs.Steps.{last_offset, LaidOver};
