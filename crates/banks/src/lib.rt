@@ -20,14 +20,14 @@ pub const GRANULES_WORDS: usize = 33;
 pub type GranulesImage = [u64; GRANULES_WORDS];
 
 // The granule of an address: its index in the table, or nothing.
-#[derive(Drop)]
+#[derive(Clone, Copy)]
 pub enum Granule {
     Nothing,
     At(usize),
 }
 
 // A bank, and the number of granules in the banks before it.
-#[derive(Drop)]
+#[derive(Clone, Copy)]
 pub struct BankSpan {
     pub base: u64,
     pub size: u64,
@@ -35,7 +35,7 @@ pub struct BankSpan {
 }
 
 // The granule of an address, and the bank to look in first for the next address.
-#[derive(Drop)]
+#[derive(Clone, Copy)]
 pub struct Found {
     pub granule: Granule,
     pub bank: BankSpan,

@@ -1,4 +1,6 @@
 // Big-endian 4-byte numbers, read from and written to a lent slice at any offset.
+#![tactic(auto)]
+
 ghost use Rattle.std.specs.Prelude.{◌≡◌, ◌+◌, ◌<◌, ◌≤◌, length};
 ghost use Rattle.words.specs.Word.{le_bytes, laid};
 ghost use Rattle.big_words.specs.Big.{be_bytes, big_at};

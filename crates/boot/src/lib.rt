@@ -7,7 +7,7 @@ use reader::Verdict;
 
 // What a boot record keeps of its cold boot: x2 (`cpus`), the base B, the agreed interface minor, and K (`kept`). No runtime command writes
 // the first K bytes of the page (BT1, KB3).
-#[derive(Drop)]
+#[derive(Clone, Copy)]
 pub struct Params {
     pub cpus: u64,
     pub base: u64,
@@ -16,7 +16,7 @@ pub struct Params {
 }
 
 // The boot record (BT1): no boot yet, up, or closed for good by a failed boot.
-#[derive(Drop)]
+#[derive(Clone, Copy)]
 pub enum Record {
     Fresh,
     Up(Params),
@@ -24,7 +24,7 @@ pub enum Record {
 }
 
 // The outcome of a boot: success, or the first check that fails.
-#[derive(Drop)]
+#[derive(Clone, Copy)]
 pub enum BootCode {
     Done,
     State,
@@ -35,7 +35,7 @@ pub enum BootCode {
 }
 
 // The result of a boot: the next record and the code.
-#[derive(Drop)]
+#[derive(Clone, Copy)]
 pub struct BootResult {
     pub next: Record,
     pub code: BootCode,

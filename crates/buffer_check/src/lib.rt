@@ -7,7 +7,7 @@ use boot::{Params, Record};
 use codes::{Code, Gate};
 
 // The code that a command gives to a buffer outside the page: BAD_ADDR (CM4.2, CM5.3) or INVAL (CM7.3).
-#[derive(Drop)]
+#[derive(Clone, Copy)]
 pub enum OutsideAs {
     BadAddress,
     Invalid,

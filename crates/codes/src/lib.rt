@@ -5,7 +5,7 @@ ghost use Rattle.codes.specs.Codes.{number_of, x0_of, answer_of, is_ok, fails, i
 use boot::{Params, Record};
 
 // The code of a runtime command (RT1).
-#[derive(Drop)]
+#[derive(Clone, Copy)]
 pub enum Code {
     Ok,
     Unk,
@@ -16,7 +16,7 @@ pub enum Code {
 }
 
 // The answer of a command: its code and the result registers. x0 holds the code; an unused register is 0.
-#[derive(Drop)]
+#[derive(Clone, Copy)]
 pub struct Answer {
     pub code: Code,
     pub x0: u64,
@@ -25,14 +25,14 @@ pub struct Answer {
 }
 
 // What the platform must do after the answer.
-#[derive(Drop)]
+#[derive(Clone, Copy)]
 pub enum Work {
     Nothing,
     Reprogram(u64),
 }
 
 // The result of a row of checks: the code of the first check that fails, or an offset if all pass.
-#[derive(Drop)]
+#[derive(Clone, Copy)]
 pub enum Gate {
     Stop(Code),
     Go(usize),

@@ -1,5 +1,7 @@
 // The entries of a section's array, read in the page: their rules (E1 to E5) and their checksum (S4).
 // A section is its number in ML1 (docs/RULES.md): 0 DRAM banks, 1 consoles, 2 non-coherent regions, 3 coherent regions.
+#![tactic(auto)]
+
 ghost use Rattle.std.specs.Prelude.{◌≡◌, ◌+◌, ◌*◌, ◌%◌, ◌^◌, ◌≤◌, length, ◌≢◌, nat_le};
 ghost use Rattle.words.specs.Tests.{both};
 ghost use Rattle.entries.specs.Entry.{words_per_entry, size, bank_ok, console_ok};
@@ -50,7 +52,7 @@ pub fn fits(k: usize, count: u64, room: u64) -> bool
 
 // Bits of many entries, combined with "or". The rule holds for every entry exactly if they are clear (`banks_clear`, `consoles_clear`). So
 // the loop has no early exit and the compiler can vectorize it.
-#[derive(Drop)]
+#[derive(Clone, Copy)]
 pub struct Bits {
     pub low: u64,
     pub high: u64,
@@ -132,7 +134,7 @@ pub fn consoles_clear(bits: Bits, minor: u64) -> bool
 }
 
 // The result for several entries: the sum of their words modulo 2^64, and whether every entry keeps its rule.
-#[derive(Drop)]
+#[derive(Clone, Copy)]
 struct SumCheck {
     sum: u64,
     ok: bool,

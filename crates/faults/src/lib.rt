@@ -17,7 +17,7 @@ use fields::{FieldsEnd, Seen};
 use versions::Edition;
 
 // The rules in the order of the checks, P1 to F5. The code is -5 for the first two, -6 for the next two and -7 for all others.
-#[derive(Drop)]
+#[derive(Clone, Copy)]
 pub enum Rule {
     Length,
     Base,
@@ -45,7 +45,7 @@ pub enum Rule {
 // A broken rule. `section` and `index` are 0 if the rule has none. `index` is the number of the entry or field; for an overlap it is the
 // section whose array is hit. `found` is the word at `offset`; for a field it is tag + 256 * length; for the page's length, the base and
 // the edition it is that number. `wanted` is the correct checksum, 4,096 for a length, otherwise 0.
-#[derive(Drop)]
+#[derive(Clone, Copy)]
 pub struct Fault {
     pub rule: Rule,
     pub section: u8,
@@ -56,7 +56,7 @@ pub struct Fault {
 }
 
 // The result of a diagnosis: no fault, or the first one.
-#[derive(Drop)]
+#[derive(Clone, Copy)]
 pub enum Diagnosis {
     Clear,
     At(Fault),

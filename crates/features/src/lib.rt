@@ -22,7 +22,7 @@ const MECID_MOST: u64 = 65535;
 const WIDTH_MOST: u64 = 15;
 
 // The result of a key update: the answer, and what the platform must do.
-#[derive(Drop)]
+#[derive(Clone, Copy)]
 pub struct UpdateResult {
     pub answer: Answer,
     pub work: Work,

@@ -2,11 +2,9 @@
 use Prim.Native.Nat.{ℕ, ◌+◌, ◌≤◌, ◌<◌}
 use mathlib.Core.Path.{◌≡◌, refl}
 use mathlib.Core.Bool.{Bool, true, false, cond}
-use mathlib.Core.Logic.{⊎_elim, inl, inr}
+use mathlib.Core.Logic.{inl, inr}
 use mathlib.Core.List.{List, [], ◌∷◌}
 use native.Mathlib.Omega.{arith}
-use types.Run.{OneOf}
-use denote.Enum.Declared.{tag_of}
 use borrow.Author.Tests.{eq-eqb, ne_eqb}
 use lib.ListN.{length, get_or}
 use lib.Dec.{eqb}
@@ -15,19 +13,18 @@ use Rattle.fields.specs.Fields.{mk_field, raw, withdrawn, shown_field, shown_fie
 use Rattle.fields.specs.Steps.{head_at, fields_from, field_place_of, field_step_of, step_at}
 use Rattle.fields.specs.declared.Head.{Head}
 use Rattle.fields.specs.declared.Head.TheVariants as head
-use Rattle.fields.specs.contracts.Head.{the_type}
 use Rattle.fields.specs.declared.FieldPlace.TheVariants.{Raw, Withdrawn, Nothing}
 use Rattle.fields.specs.declared.FieldStep.{FieldStep}
 use Rattle.fields.proofs.Scans.{head-room, head-told}
 use Rattle.fields.proofs.Walks.{from-stop, from_field}
 
 -- ---- by the head at the offset
-pub step-stop : (at : ℕ) (bs : List ℕ) (d : Head) → head_at at bs ≡ d → OneOf (0 ∷ 1 ∷ []) (tag_of the_type d) →
+pub step-stop : (at : ℕ) (bs : List ℕ) (d : Head) → head_at at bs ≡ d → ((t v m x : ℕ) → d ≡ head.Field t v m x → ⊥) →
     record { field = Nothing; next = length bs } ≡ step_at at bs
 unfolding step_at field_step_of
 step-stop at bs head.Broken e k = rw e
 step-stop at bs head.End e k = rw e
-step-stop at bs (head.Field t v m x) e k = absurd (⊎_elim (λ z. omega arith) (λ z. omega arith) k)
+step-stop at bs (head.Field t v m x) e k = absurd (k t v m x refl)
 
 module _ (at : ℕ) (bs : List ℕ) {t v m x : ℕ} (e : head_at at bs ≡ head.Field t v m x) where
   pub step_field : (t ≡ 3 → ⊥) → record { field = Raw t v m; next = x } ≡ step_at at bs

@@ -1,7 +1,7 @@
 -- The fields that are left at an offset, for the loop over them. Assumes nothing.
 use Prim.Native.Nat.{ℕ, zero, suc, ◌+◌, ◌≤◌, ◌<◌}
 use mathlib.Core.Path.{◌≡◌, refl, sym, ap, ◌∙◌}
-use mathlib.Core.Bool.{Bool, true, false, false≢true}
+use mathlib.Core.Bool.{Bool, true, false≢true}
 use mathlib.Core.List.{List, [], ◌∷◌}
 use native.Mathlib.Omega.{arith}
 use native.Mathlib.Decide.{dec_lt}
@@ -11,7 +11,7 @@ use denote.Enum.Declared.{tag_of}
 use borrow.Author.Tests.{lt-ltb}
 use lib.ListN.{length, drop, drop_of_length-le}
 use Rattle.words.specs.Word.{part, num_at}
-use Rattle.fields.specs.Fields.{Field, mk_field, Scanned, broken, ended, bare, push, scan, scan_all, scan_of, judged, fields_ok, fields_in}
+use Rattle.fields.specs.Fields.{Field, mk_field, Scanned, broken, ended, bare, push, scan, scan_all, scan_of, fields_ok, fields_in}
 use Rattle.fields.specs.Fields.{is_ended}
 use Rattle.fields.specs.Steps.{head_of, head_at, end_told, walked_on, walked, fields_from}
 use Rattle.fields.specs.declared.Head.{Head}

@@ -1,5 +1,7 @@
 // Board facts in the platform data (FD1 to FD8): fields of a tag, a two-byte length and a value, up to an end mark, checked and read in
 // the slice.
+#![tactic(auto)]
+
 ghost use Rattle.std.specs.Prelude.{◌≡◌, ◌+◌, ◌<◌, ◌≤◌, length, drop};
 ghost use Rattle.words.specs.Word.{num_at};
 ghost use Rattle.fields.specs.Fields.{length_ok, scan_of, describable, fields_in};
@@ -28,7 +30,7 @@ const CHOICE_BYTES: usize = 1;
 
 // What is at an offset: broken bytes (cut short, or tag 0 with a length); the end mark; or a field, with the offset and length of its
 // value and the offset after it. Private, because no function may give out the offset of a value with tag 3 (FD9).
-#[derive(Drop)]
+#[derive(Clone, Copy)]
 enum Head {
     Broken,
     End,
@@ -41,7 +43,7 @@ enum Head {
 }
 
 // A field as callers see it: its tag with the offset and length of its value; the withdrawn field, tag 3, without its value; or no field.
-#[derive(Drop)]
+#[derive(Clone, Copy)]
 pub enum FieldPlace {
     Raw { tag: u8, at: usize, len: usize },
     Withdrawn,
@@ -49,14 +51,14 @@ pub enum FieldPlace {
 }
 
 // One step of a walk over the fields: the field at an offset, and the offset after it.
-#[derive(Drop)]
+#[derive(Clone, Copy)]
 pub struct FieldStep {
     pub field: FieldPlace,
     pub next: usize,
 }
 
 // How the fields of a slice end: broken, or with an end mark, and then the number of bytes through the mark.
-#[derive(Drop)]
+#[derive(Clone, Copy)]
 pub enum FieldsEnd {
     Broken,
     Ended(usize),
@@ -64,7 +66,7 @@ pub enum FieldsEnd {
 
 // Where a pass over the fields stops: at a broken rule; after an end mark, at `end`, with `passed` fields before it; or at the slice's end
 // without a mark, and then `console` is whether it passed a tag 3.
-#[derive(Drop)]
+#[derive(Clone, Copy)]
 enum Stop {
     Broken,
     Mark { end: usize, passed: usize },
@@ -72,7 +74,7 @@ enum Stop {
 }
 
 // Which of the tags 1 to 3 a pass has met so far.
-#[derive(Drop)]
+#[derive(Clone, Copy)]
 pub struct Seen {
     pub name: bool,
     pub serial: bool,

@@ -1,7 +1,7 @@
 // The rules of delegation: definitions in specs/, laws and theorems in proofs/. The code is in `granules`.
 
 // The direction of a move: Non-secure to Realm, or back.
-#[derive(Drop)]
+#[derive(Clone, Copy)]
 pub enum Direction {
     Delegate,
     Undelegate,

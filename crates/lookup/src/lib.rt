@@ -16,7 +16,7 @@ use words::Span;
 const CONSOLE_NAME_AT: usize = 16;
 
 // The result of a search for a console: its index, or `Nothing` if no console has the name.
-#[derive(Drop)]
+#[derive(Clone, Copy)]
 pub enum ConsoleFound {
     At(usize),
     Nothing,

@@ -12,7 +12,7 @@ use reader::Refusal;
 use versions::Edition;
 
 // Which of the six parts were changed.
-#[derive(Drop)]
+#[derive(Clone, Copy)]
 pub struct Changes {
     pub padding: bool,
     pub plat: bool,
@@ -23,14 +23,14 @@ pub struct Changes {
 }
 
 // `Done` if the page was mended, otherwise why not: its place (-5) or its version (-6).
-#[derive(Drop)]
+#[derive(Clone, Copy)]
 pub enum Mended {
     Done(Changes),
     Refused(Refusal),
 }
 
 // Whether the platform data was changed, and the addresses [from, to) of the kept fields; [0, 0) if there are none.
-#[derive(Drop)]
+#[derive(Clone, Copy)]
 struct PlatKept {
     changed: bool,
     from: u64,

@@ -17,7 +17,7 @@ use reader::{Refusal, Verdict};
 use versions::Edition;
 
 // `Page` if a page was made, otherwise why not: the reader's refusal of the page, or `Target` if the target is not 4,096 bytes long (W1).
-#[derive(Drop)]
+#[derive(Clone, Copy)]
 pub enum Packing {
     Page,
     Refused(Refusal),

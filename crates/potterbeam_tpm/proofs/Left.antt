@@ -9,7 +9,7 @@ use Rattle.tpm.specs.declared.CommResult.{CommResult}
 use Rattle.tpm.specs.declared.TpmSession.{TpmSession}
 use Rattle.tpm.specs.ReturnCodes.{hcall_number, is_success}
 use Rattle.tpm.specs.Comm.{CommStep, comm_of, step_left}
-use Rattle.potterbeam_tpm.specs.Exports.{tpm_session_of, tpm_session_word, left_by, CommLeft, comm_left, says, comm_in}
+use Rattle.potterbeam_tpm.specs.Exports.{tpm_session_of, tpm_session_word, left_by, comm_left, says, comm_in}
 
 pub left_is : (r3 : ℤ) (r : CommResult) (word next : ℕ) (before memory response : List ℕ) (a : Arguments) (forbidden fault : ℕ) →
     r3 ≡ hcall_number r.code → next ≡ cond (is_success r.code) (tpm_session_word r.session) word →

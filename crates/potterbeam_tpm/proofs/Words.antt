@@ -42,7 +42,7 @@ pub words-over : (w : ℕ) (xs : List ExportedCall) → tpm_session_of (word_ove
 unfolding word_over session_over comm_calls comm_step
 words-over w [] = refl
 words-over w (x ∷ xs) =
-    words-over _ xs
+    words-over (comm_in w x.asked x.memory x.response x.forbidden x.fault).session xs
     ∙ ap (λ (s : TpmSession). session_over s (comm_calls xs)) (word_after w x.asked x.memory x.response x.forbidden x.fault)
 
 word-open : (w : ℕ) → (w ≡ 0 → ⊥) → tpm_session_of w ≡ Open

@@ -1,4 +1,6 @@
 // H_TPM_COMM for C and Rust. The session is a lent word; r3 is the return value, and r4 goes to a lent word.
+#![tactic(auto)]
+
 ghost use Rattle.std.specs.Prelude.{◌≡◌, cond, length};
 ghost use Rattle.tpm.specs.ReturnCodes.{is_success};
 ghost use Rattle.tpm.specs.Comm.{tpm_request_span};

@@ -16,7 +16,7 @@ pub const HASH_BYTES: usize = 48;
 pub const SIGNATURE_BYTES: usize = 104;
 
 // A request to sign a realm's token. `algorithm` and `hashid` are 4-byte numbers.
-#[derive(Drop)]
+#[derive(Clone, Copy)]
 pub struct Request {
     pub algorithm: u64,
     pub granule: u64,
@@ -26,7 +26,7 @@ pub struct Request {
 }
 
 // A response: the request's granule and ticket, and a signature of `len` bytes; a `len` above 104 counts as 104.
-#[derive(Drop)]
+#[derive(Clone, Copy)]
 pub struct Response {
     pub granule: u64,
     pub ticket: u64,
@@ -35,42 +35,42 @@ pub struct Response {
 }
 
 // The requests that wait, oldest first.
-#[derive(Drop)]
+#[derive(Clone, Copy)]
 pub struct Requests {
     pub items: [Request; PLACES],
     pub count: usize,
 }
 
 // The responses that wait, oldest first.
-#[derive(Drop)]
+#[derive(Clone, Copy)]
 pub struct Responses {
     pub items: [Response; PLACES],
     pub count: usize,
 }
 
 // The signing queue: both sides.
-#[derive(Drop)]
+#[derive(Clone, Copy)]
 pub struct Queue {
     pub requests: Requests,
     pub responses: Responses,
 }
 
 // The result of a call on the queue: the answer and the next queue.
-#[derive(Drop)]
+#[derive(Clone, Copy)]
 pub struct QueueResult {
     pub answer: Answer,
     pub queue: Queue,
 }
 
 // Whether a request waits.
-#[derive(Drop)]
+#[derive(Clone, Copy)]
 pub enum Waiting {
     None,
     Some,
 }
 
 // The oldest request; zeros if no request waits.
-#[derive(Drop)]
+#[derive(Clone, Copy)]
 pub struct Oldest {
     pub waiting: Waiting,
     pub request: Request,

@@ -83,9 +83,9 @@ module _ {s o : Side} (b : Beside s o) (n : ℕ) (p : List ℕ) (m : ℕ) (q : L
   first-in : (i : ℕ) → i ≤ 8 → take (s.width * i) (p ++ behind b q) ≡ take (s.width * i) p
   first-in i h = take-append-le (s.width * i) p (behind b q) (omega (arith, rows-within s.width i h))
 
-  rows_in : waiting_rows s (sides_laid b n p m q) ≡ rows s.width (min 8 n) p
+  rows-in : waiting_rows s (sides_laid b n p m q) ≡ rows s.width (min 8 n) p
   unfolding waiting_rows
-  rows_in =
+  rows-in =
       rw (number_in n p m q b, places-in n p m q b j) (rows_taken s.width n 8 (p ++ behind b q) ∙
       rows_same s.width (min 8 n) (p ++ behind b q) p (first-in (min 8 n) (omega arith)))
 
@@ -159,8 +159,8 @@ module _ {s o : Side} (b : Beside s o) (w : List ℕ) (l : length w ≡ 210) whe
       let c : min 8 (suc (min 8 n)) ≡ suc (min 8 n) = omega arith in
       rw (
         joined_in b n p m q k j row e h,
-        rows_in b n p m q k j,
-        rows_in b (suc (min 8 n)) (block_joined s.width (min 8 n) row p) m q (joined_length s.width p k (min 8 n) row e h) j,
+        rows-in b n p m q k j,
+        rows-in b (suc (min 8 n)) (block_joined s.width (min 8 n) row p) m q (joined_length s.width p k (min 8 n) row e h) j,
         c,
       )
       (joined-rows s.width p k (min 8 n) row e h))
@@ -175,8 +175,8 @@ module _ {s o : Side} (b : Beside s o) (w : List ℕ) (l : length w ≡ 210) whe
       let c : min 8 (min 8 n - 1) ≡ min 8 n - 1 = omega arith in
       rw (
         dropped-in b n p m q k j,
-        rows_in b n p m q k j,
-        rows_in b (min 8 n - 1) (block_dropped s.width (min 8 n) p) m q (dropped-length s.width p k (min 8 n) h) j,
+        rows-in b n p m q k j,
+        rows-in b (min 8 n - 1) (block_dropped s.width (min 8 n) p) m q (dropped-length s.width p k (min 8 n) h) j,
         c,
       )
       (dropped-rows s.width p k (min 8 n) h))
@@ -190,7 +190,7 @@ module _ {s o : Side} (b : Beside s o) (n : ℕ) (p : List ℕ) (m : ℕ) (q : L
   side-beside = rw (image-turned b n p m q) (side-in (turned b) m q n p j k)
 
   rows-beside : waiting_rows o (sides_laid b n p m q) ≡ rows o.width (min 8 m) q
-  rows-beside = rw (image-turned b n p m q) (rows_in (turned b) m q n p j k)
+  rows-beside = rw (image-turned b n p m q) (rows-in (turned b) m q n p j k)
 
 stays-beside : {s o : Side} (b : Beside s o) (n : ℕ) (p : List ℕ) (m : ℕ) (q : List ℕ) → length p ≡ s.width * 8 → length q ≡ o.width * 8 →
     (x : ℕ) (r : List ℕ) → length r ≡ s.width * 8 → Stays o (sides_laid b n p m q) (sides_laid b x r m q)

@@ -27,7 +27,7 @@ flagged = le_bytes 8 0x90000000 ++ le_bytes 8 1 ++ le_bytes 8 0x3131306_c70 ++ l
 unfoldable pub flagged_page : ℕ → List ℕ
 flagged_page minor =
     le_bytes 4 minor ++ replicate 36 0
-    ++ le_bytes 8 1 ++ le_bytes 8 0x80000070 ++ le_bytes 8 0x_ffffffcdbd5_f9_b1_d
+    ++ le_bytes 8 1 ++ le_bytes 8 0x80000070 ++ le_bytes 8 0xffffffcdbd5_f9_b1_d
     ++ replicate 48 0
     ++ flagged ++ replicate 3936 0
 

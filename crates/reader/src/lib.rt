@@ -12,7 +12,7 @@ ghost use Rattle.reader.specs.declared.Verdict.TheVariants.{Passed};
 use versions::Edition;
 
 // What is shown of a section (RD10): absent (not in the edition), empty (24 zero bytes), or `count` entries at offset `at` of the page.
-#[derive(Drop)]
+#[derive(Clone, Copy)]
 pub enum Section {
     Absent,
     Empty,
@@ -20,7 +20,7 @@ pub enum Section {
 }
 
 // Everything that an accepted page shows: its minor, the edition that it was read as, the platform pointer and the four sections.
-#[derive(Drop)]
+#[derive(Clone, Copy)]
 pub struct View {
     pub minor: u64,
     pub edition: u64,
@@ -32,7 +32,7 @@ pub struct View {
 }
 
 // Why a page is refused: length or base (-5), edition or version (-6), any other rule (-7).
-#[derive(Drop)]
+#[derive(Clone, Copy)]
 pub enum Refusal {
     Place,
     Version,
@@ -40,14 +40,14 @@ pub enum Refusal {
 }
 
 // A reader's answer: the view of an accepted page, or why the page is refused.
-#[derive(Drop)]
+#[derive(Clone, Copy)]
 pub enum Reading {
     Accepted(View),
     Refused(Refusal),
 }
 
 // The verdict alone: the minor of an accepted page, or why the page is refused.
-#[derive(Drop)]
+#[derive(Clone, Copy)]
 pub enum Verdict {
     Passed(u64),
     Refused(Refusal),

@@ -8,14 +8,14 @@ ghost use Rattle.realm_words.specs.Answers.{count_code, agree_code, build_code, 
 pub const WORD_GRANULES: usize = 64;
 
 // The number of Realm granules, or INVAL.
-#[derive(Drop)]
+#[derive(Clone, Copy)]
 pub enum Number {
     Inval,
     Count(u64),
 }
 
 // The first Realm granule at or after an index, nothing, or INVAL (`realm_next::next`).
-#[derive(Drop)]
+#[derive(Clone, Copy)]
 pub enum Hit {
     Inval,
     Nothing,
@@ -23,7 +23,7 @@ pub enum Hit {
 }
 
 // Whether words and table agree, or INVAL.
-#[derive(Drop)]
+#[derive(Clone, Copy)]
 pub enum Agreement {
     Inval,
     No,

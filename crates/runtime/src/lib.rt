@@ -10,7 +10,7 @@ use queue::{Queue, QueueResult};
 use token::{Session, TokenResult};
 
 // A runtime command. `Unlisted` is any other function id.
-#[derive(Drop)]
+#[derive(Clone, Copy)]
 pub enum Kind {
     ForwardError,
     Delegate,
@@ -24,14 +24,14 @@ pub enum Kind {
 }
 
 // The reply to a call: either err_code for the Non-secure world, or the result registers and what the platform must do next.
-#[derive(Drop)]
+#[derive(Clone, Copy)]
 pub enum Reply {
     Forward(u64),
     Back { answer: Answer, work: Work },
 }
 
 // The reply of a call with the next token session and signing queue.
-#[derive(Drop)]
+#[derive(Clone, Copy)]
 pub struct StepResult {
     pub reply: Reply,
     pub session: Session,

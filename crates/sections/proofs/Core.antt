@@ -5,12 +5,10 @@ use mathlib.Core.List.{List}
 use native.Mathlib.Omega.{arith}
 use lib.ListN.{length, take, drop, length-drop}
 use lib.Seq.{length-take-le}
-use Rattle.words.specs.Tests.{either, every}
 use Rattle.words.specs.Word.{part, word_at, splice, laid}
 use Rattle.words.proofs.Read.{num-part}
 use Rattle.words.proofs.Store.{bytes-in, length-splice, part-splice}
 use Rattle.words.proofs.Tests.{every-same}
-use Rattle.entries.specs.Entry.{size}
 use Rattle.sections.specs.Page.{count_at, pointer_at, check_at}
 use Rattle.sections.specs.Steps.{Copied, end_of, apart_at, clear_to, apart_to, clear_at, clear_from}
 
@@ -60,11 +58,11 @@ module _ (page copied : List ℕ) (c : Copied copied page) where
   unfolding apart_to
   core-apart n h = every-same n (λ i. clear_to i i copied) (λ i. clear_to i i page) (λ i l. clear-one i i (omega arith) (omega arith))
 
-  clear_at : (from to k : ℕ) → k < 4 → clear_at from to k copied ≡ clear_at from to k page
+  clear-at : (from to k : ℕ) → k < 4 → clear_at from to k copied ≡ clear_at from to k page
   unfolding clear_at
-  clear_at from to k h = rw (core-pointer k h, core-end k h)
+  clear-at from to k h = rw (core-pointer k h, core-end k h)
 
   pub core-clear : (from to n : ℕ) → n ≤ 4 → clear_from from to n copied ≡ clear_from from to n page
   unfolding clear_from
   core-clear from to n h =
-      every-same n (λ k. clear_at from to k copied) (λ k. clear_at from to k page) (λ k l. clear_at from to k (omega arith))
+      every-same n (λ k. clear_at from to k copied) (λ k. clear_at from to k page) (λ k l. clear-at from to k (omega arith))

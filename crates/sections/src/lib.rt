@@ -1,5 +1,7 @@
 // The rules of a manifest page, read in place: base and length, padding, the platform pointer with its fields, each section by itself, and
 // that no two arrays overlap, nor the fields and an array.
+#![tactic(auto)]
+
 ghost use Rattle.std.specs.Prelude.{true, cond, ◌≡◌, ℕ, ◌+◌, ◌≤◌, ◌<◌, length};
 ghost use Rattle.words.specs.Tests.{both};
 ghost use Rattle.versions.specs.Edition.{core};

@@ -14,7 +14,7 @@ use codes::{Answer, Code, Gate};
 use queue::{Queue, QueueResult};
 
 // The opcode of a token signing call.
-#[derive(Drop)]
+#[derive(Clone, Copy)]
 pub enum Opcode {
     Push,
     Pull,

@@ -5,7 +5,7 @@ ghost use Rattle.state_blobs.specs.Collect.{new_collector, is_complete, other_to
 use state_messages::{ResponseRead, StateRefusal};
 
 // Whether a response is accepted, or why not.
-#[derive(Drop)]
+#[derive(Clone, Copy)]
 pub enum CollectVerdict {
     Accepted,
     Refused(StateRefusal),
@@ -13,7 +13,7 @@ pub enum CollectVerdict {
 
 // The part of a blob held so far: whether a response was accepted, the totlength of the first accepted response, and the number of bytes
 // held.
-#[derive(Drop)]
+#[derive(Clone, Copy)]
 pub struct Collector {
     pub accepted: bool,
     pub total: u32,
@@ -21,7 +21,7 @@ pub struct Collector {
 }
 
 // The answer of a call, and the collector after it.
-#[derive(Drop)]
+#[derive(Clone, Copy)]
 pub struct CollectResult {
     pub verdict: CollectVerdict,
     pub collector: Collector,

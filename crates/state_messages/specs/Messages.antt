@@ -1,7 +1,7 @@
 -- The request for a piece of a state blob and the response that carries one, read and written (SB1, SB2). Request E13: "all numbers 4-byte
 -- big-endian: command code, state_flags, type and offset; the response is tpm_result, state_flags, totlength, length and that many bytes of
 -- data". Assumes nothing.
-use Rattle.std.specs.Prelude.{ℕ, ◌+◌, ◌^◌, ◌<◌, cond, List, ◌++◌, length, drop, leb, ltb, eqb}
+use Rattle.std.specs.Prelude.{ℕ, ◌+◌, ◌^◌, ◌<◌, cond, List, ◌++◌, length, drop, ltb, eqb}
 use Rattle.words.specs.Word.{splice}
 use Rattle.big_words.specs.Big.{be_bytes, big_at}
 use Rattle.state_messages.specs.declared.StateRequest.{StateRequest}

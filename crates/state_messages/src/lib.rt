@@ -1,12 +1,14 @@
 // GET_STATEBLOB of swtpm's control channel: the request for a piece of a state blob and the response that carries one, read from and written to lent
 // slices. Every number has 4 bytes, big-endian. `kind` is the type of a blob.
+#![tactic(auto)]
+
 ghost use Rattle.std.specs.Prelude.{◌≡◌, ◌+◌, ◌≤◌, length, drop};
 ghost use Rattle.words.specs.Word.{splice, on_from};
 ghost use Rattle.big_words.specs.Big.{be_bytes, big_at};
 ghost use Rattle.state_messages.specs.Messages.{head_bytes, read_request, read_response, response_read, Message, write_request, response_of, write_response};
 
 // A request: the command code, state_flags, the type of blob, and the offset of the piece in the blob.
-#[derive(Drop)]
+#[derive(Clone, Copy)]
 pub struct StateRequest {
     pub code: u32,
     pub flags: u32,
@@ -15,7 +17,7 @@ pub struct StateRequest {
 }
 
 // The numbers of a response to write: tpm_result, state_flags and totlength. The length field is the length of the data.
-#[derive(Drop)]
+#[derive(Clone, Copy)]
 pub struct ResponseHeader {
     pub result: u32,
     pub flags: u32,
@@ -23,7 +25,7 @@ pub struct ResponseHeader {
 }
 
 // An accepted response: state_flags, totlength, and its data as the bytes [at, at + len) of the message.
-#[derive(Drop)]
+#[derive(Clone, Copy)]
 pub struct Piece {
     pub flags: u32,
     pub total: u32,
@@ -33,7 +35,7 @@ pub struct Piece {
 
 // Why a message, a buffer or a piece is refused: the reader's reasons in order, the writer's second one, then the collector's. No message is both cut
 // short and too long, so these two share one place in the order.
-#[derive(Drop)]
+#[derive(Clone, Copy)]
 pub enum StateRefusal {
     CutShort,
     TooLong,
@@ -48,21 +50,21 @@ pub enum StateRefusal {
 }
 
 // A request, or why it is refused.
-#[derive(Drop)]
+#[derive(Clone, Copy)]
 pub enum RequestRead {
     Accepted(StateRequest),
     Refused(StateRefusal),
 }
 
 // The piece of a response, or why it is refused.
-#[derive(Drop)]
+#[derive(Clone, Copy)]
 pub enum ResponseRead {
     Accepted(Piece),
     Refused(StateRefusal),
 }
 
 // The length of the message that was written, or why none was written.
-#[derive(Drop)]
+#[derive(Clone, Copy)]
 pub enum MessageWritten {
     Length(usize),
     Refused(StateRefusal),

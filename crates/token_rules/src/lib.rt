@@ -4,14 +4,14 @@ ghost use Rattle.std.specs.Prelude.{◌≡◌};
 use codes::Answer;
 
 // A token session: none, or a token of `whole` bytes of which `sent` are sent.
-#[derive(Drop)]
+#[derive(Clone, Copy)]
 pub enum Session {
     Idle,
     Sending { whole: u64, sent: u64 },
 }
 
 // The result of a token call: the answer and the next session.
-#[derive(Drop)]
+#[derive(Clone, Copy)]
 pub struct TokenResult {
     pub answer: Answer,
     pub session: Session,

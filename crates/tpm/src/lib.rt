@@ -1,5 +1,7 @@
 // H_TPM_COMM, the hypervisor's side: a guest sends a request to a TPM and gets the response, or closes its TPM session. The guest memory is
 // lent from guest address 0 on, so a guest physical address is an offset into it.
+#![tactic(auto)]
+
 ghost use Rattle.std.specs.Prelude.{◌≡◌, length};
 ghost use Rattle.words.specs.Word.{on_from};
 ghost use Rattle.tpm.specs.declared.TpmSession.TheVariants.{None};
@@ -14,7 +16,7 @@ const IN_SIZE_MOST: u64 = 4096;
 const OUT_SIZE_LEAST: u64 = 4096;
 
 // The return codes of H_TPM_COMM, without their H_ (TP3).
-#[derive(Drop)]
+#[derive(Clone, Copy)]
 pub enum ReturnCode {
     Success,
     Function,
@@ -27,7 +29,7 @@ pub enum ReturnCode {
 }
 
 // Whether the guest has a TPM session.
-#[derive(Drop)]
+#[derive(Clone, Copy)]
 pub enum TpmSession {
     None,
     Open,
@@ -43,7 +45,7 @@ impl TpmSession {
 }
 
 // What a call returns: r3 by name, r4, and the session after it.
-#[derive(Drop)]
+#[derive(Clone, Copy)]
 pub struct CommResult {
     pub code: ReturnCode,
     pub r4: u64,
@@ -52,7 +54,7 @@ pub struct CommResult {
 
 // The arguments of H_TPM_COMM, r4 to r8 (TP1): the operation (1 execute, 2 close), address and size of the request, address and size
 // of the output.
-#[derive(Drop)]
+#[derive(Clone, Copy)]
 pub struct Arguments {
     pub operation: u64,
     pub inbuffer: u64,

@@ -1,4 +1,6 @@
 // Versions as numbers (VN1 to VN4), and the editions of the manifest's layout (ML1, ML2).
+#![tactic(auto)]
+
 ghost use Rattle.std.specs.Prelude.{◌≡◌, ◌<◌, ◌≤◌};
 ghost use Rattle.versions.specs.Version.{minor_of, major_of, version_ok, later, agreed};
 ghost use Rattle.versions.specs.Edition.{section_count, core, edition_ok};
@@ -62,7 +64,7 @@ pub fn is_edition(edition: u64) -> bool
 }
 
 // An edition of the layout, given as a minor. A minor below 1 counts as 1 and one above 4 as 4, so every number is an edition.
-#[derive(Drop)]
+#[derive(Clone, Copy)]
 pub struct Edition {
     pub minor: u64,
 }

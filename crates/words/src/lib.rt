@@ -18,7 +18,7 @@ pub const ADDRESS_LIMIT: u64 = 0x10_0000_0000_0000;
 pub const BASE_MOST: u64 = 0x_f_ffff_ffff_f000;
 
 // A part of a slice: the `len` bytes [at, at + len).
-#[derive(Drop)]
+#[derive(Clone, Copy)]
 pub struct Span {
     pub at: usize,
     pub len: usize,

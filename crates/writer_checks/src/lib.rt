@@ -10,7 +10,7 @@ use entries::Bits;
 use versions::Edition;
 
 // The sums of the words of each list, modulo 2^64.
-#[derive(Drop)]
+#[derive(Clone, Copy)]
 pub struct Totals {
     pub dram: u64,
     pub console: u64,
@@ -19,14 +19,14 @@ pub struct Totals {
 }
 
 // The totals, or `Unsound` if a list is not a whole number of entries or an entry breaks its rule.
-#[derive(Drop)]
+#[derive(Clone, Copy)]
 pub enum Sums {
     Unsound,
     Sound(Totals),
 }
 
 // The sum of a list's words modulo 2^64, and whether every entry keeps its rule.
-#[derive(Drop)]
+#[derive(Clone, Copy)]
 struct ListCheck {
     sum: u64,
     ok: bool,

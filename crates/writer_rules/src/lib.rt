@@ -2,7 +2,7 @@
 
 // `Page` if a page was made, otherwise the refusal: `Place` (W1), `Edition` (W2), `BadEntry` (W3, a list or the fields), `SectionAfterEdition` (W4, an entry of a
 // section after the edition), `TooLong` (W5).
-#[derive(Drop)]
+#[derive(Clone, Copy)]
 pub enum Wrote {
     Page,
     Place,

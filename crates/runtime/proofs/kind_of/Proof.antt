@@ -41,14 +41,14 @@ unfolding kind_of
 returns-9 c =
     let a = c.before.args in
     simp (
-      ne_eqb a.id 0x_c400018_f (search rules),
-      ne_eqb a.id 0x_c40001_b0 (search rules),
-      ne_eqb a.id 0x_c40001_b1 (search rules),
-      ne_eqb a.id 0x_c40001_b2 (search rules),
-      ne_eqb a.id 0x_c40001_b3 (search rules),
-      ne_eqb a.id 0x_c40001_b4 (search rules),
-      ne_eqb a.id 0x_c40001_b5 (search rules),
-      ne_eqb a.id 0x_c40001_b6 (search rules),
+      ne_eqb a.id 0xc400018_f (search rules),
+      ne_eqb a.id 0xc40001_b0 (search rules),
+      ne_eqb a.id 0xc40001_b1 (search rules),
+      ne_eqb a.id 0xc40001_b2 (search rules),
+      ne_eqb a.id 0xc40001_b3 (search rules),
+      ne_eqb a.id 0xc40001_b4 (search rules),
+      ne_eqb a.id 0xc40001_b5 (search rules),
+      ne_eqb a.id 0xc40001_b6 (search rules),
     )
 
 pub kind-of-spec : {M : Type 1} → statement M

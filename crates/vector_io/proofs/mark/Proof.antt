@@ -9,9 +9,9 @@ use Rattle.vector_io.proofs.mark.Statement.{statement}
 use Rattle.vector_io.proofs.mark.Tie as tie
 
 abbrev invariant-loop : tie.invariant-loop
-invariant-loop part high₀ low₀ i₀ i-end high low i = (i ≤ length part) × (high < 0x_ffff_fffb) × (low < 0x_ffff_fffb)
-    × (digits 0x9_e37_79_b1 (length part % 0x_ffff_fffb) part ≡ digits 0x9_e37_79_b1 high (drop i part))
-    × (digits 0x85_eb_ca77 (length part % 0x_ffff_fffb) part ≡ digits 0x85_eb_ca77 low (drop i part))
+invariant-loop part high₀ low₀ i₀ i-end high low i = (i ≤ length part) × (high < 0xffff_fffb) × (low < 0xffff_fffb)
+    × (digits 0x9_e37_79_b1 (length part % 0xffff_fffb) part ≡ digits 0x9_e37_79_b1 high (drop i part))
+    × (digits 0x85_eb_ca77 (length part % 0xffff_fffb) part ≡ digits 0x85_eb_ca77 low (drop i part))
 
 abbrev decreases-loop : tie.decreases-loop
 decreases-loop part high₀ low₀ i₀ i-end high low i = length part - i
@@ -67,9 +67,9 @@ returns c =
     let a = c.before.before.before.args in
     let l = c.before.loop in
     let e : l.i ≡ length a.part.now = omega arith in
-    let h : digits 0x9_e37_79_b1 (length a.part.now % 0x_ffff_fffb) a.part.now ≡ l.high = l.invariant.3 ∙
+    let h : digits 0x9_e37_79_b1 (length a.part.now % 0xffff_fffb) a.part.now ≡ l.high = l.invariant.3 ∙
     rw e (digits-all 0x9_e37_79_b1 l.high a.part.now) in
-    let g : digits 0x85_eb_ca77 (length a.part.now % 0x_ffff_fffb) a.part.now ≡ l.low = l.invariant.4 ∙
+    let g : digits 0x85_eb_ca77 (length a.part.now % 0xffff_fffb) a.part.now ≡ l.low = l.invariant.4 ∙
     rw e (digits-all 0x85_eb_ca77 l.low a.part.now) in
     rw (h, g)
 
