@@ -1,5 +1,7 @@
 // The kit for C and Rust: exports every entry except packer and mender (`potterbeam_pages`) with the prefix `pbeam_`. The caller lends each
 // state as an image of words; a result is a number or is written to lent words.
+#![tactic(auto)]
+
 ghost use Rattle.std.specs.Prelude.{◌≡◌, [], ◌∷◌, ℕ, ◌+◌, ◌*◌, ◌≤◌, ◌<◌, length, true, false};
 ghost use Rattle.words.specs.Word.{splice};
 ghost use Rattle.versions.specs.Edition.{section_count};
