@@ -76,11 +76,7 @@ pub fn pbeam_swtpm_write_request(
 }
 
 // Reads a response. Sets `parts` to state_flags, totlength, and the offset and length of its data in the message.
-pub fn pbeam_swtpm_read_response(
-    message: &[u8],
-    largest: u32,
-    parts: &mut [u32; 4],
-) -> u32
+pub fn pbeam_swtpm_read_response(message: &[u8], largest: u32, parts: &mut [u32; 4]) -> u32
     ensures { ◌≡◌ {A = PartsLeft} (record { answer = result; parts = parts.new })
         (response_left (response_read (read_response largest message.now)) parts.old) }
 {

@@ -8,7 +8,6 @@ ghost use Rattle.std.specs.Prelude.{◌≤◌, length, ◌≡◌};
 
 use vector_io::STDOUT;
 
-
 fn wide(x: u32) -> u64 {
     x as u64
 }
