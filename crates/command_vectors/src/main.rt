@@ -30,11 +30,11 @@ fn print_work(work: Work) {
 
 // Prints the answer of a command that takes neither table nor page.
 fn print_other(state: Record, id: u64, x1: u64, width: u64) {
-    if id == 0x_c400_01_b4 {
+    if id == 0xC400_01B4 {
         print_answer(features::features(state, x1));
         return;
     }
-    if id == 0x_c400_01_b6 {
+    if id == 0xC400_01B6 {
         let updated = features::key_update(state, width, x1);
         print_answer(updated.answer);
         let work = updated.work;
@@ -52,15 +52,15 @@ fn print_command(input: &[u8], table: &mut [u8], words: &mut [u64], key: &[u8], 
     let granules = vector_io::granules_at(input, 72);
     let id = words::word_at(input, 40);
     let x1 = words::word_at(input, 48);
-    if id == 0x_c400_01_b0 {
+    if id == 0xC400_01B0 {
         print_answer(granules::delegate(state, &granules, table, words, x1));
         return;
     }
-    if id == 0x_c400_01_b1 {
+    if id == 0xC400_01B1 {
         print_answer(granules::undelegate(state, &granules, table, words, x1));
         return;
     }
-    if id == 0x_c400_01_b2 {
+    if id == 0xC400_01B2 {
         let size = words::word_at(input, 56);
         let curve = words::word_at(input, 64);
         print_answer(attest::realm_key(state, page, key, x1, size, curve));

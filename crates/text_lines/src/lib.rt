@@ -11,8 +11,8 @@ ghost use Rattle.text_lines.specs.Steps.{last_offset, LaidOver};
 fn saturating_add(at: usize, n: usize) -> usize
     ensures { result ≡ min (at + n) last_offset }
 {
-    if 0x_ffff_ffff_ffff_ffff - at < n {
-        return 0x_ffff_ffff_ffff_ffff;
+    if 0xFFFF_FFFF_FFFF_FFFF - at < n {
+        return 0xFFFF_FFFF_FFFF_FFFF;
     }
     at + n
 }

@@ -28,7 +28,7 @@ fn times_prime(x: u64) -> u64 {
 
 // The 64-bit FNV-1a hash.
 fn digest(s: &[u8]) -> u64 {
-    let mut x: u64 = 0x_cbf2_9_ce4_8422_2325;
+    let mut x: u64 = 0xCBF2_9CE4_8422_2325;
     for i in 0..s.len() {
         x = times_prime(x ^ words::widen(s[i]));
     }

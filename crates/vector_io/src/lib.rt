@@ -134,12 +134,12 @@ pub fn print_same(what: &[u8], held: &[u8], expected: &[u8]) {
 pub fn mark(part: &[u8]) -> u64
     ensures { result ≡ mark_of part.now }
 {
-    let mut high = part.len() as u64 % 0x_ffff_fffb;
+    let mut high = part.len() as u64 % 0xFFFF_FFFB;
     let mut low = high;
     for i in 0..part.len() {
         let byte = words::widen(part[i]);
-        high = (high * 0x9_e37_79_b1 + byte) % 0x_ffff_fffb;
-        low = (low * 0x85_eb_ca77 + byte) % 0x_ffff_fffb;
+        high = (high * 0x9E37_79B1 + byte) % 0xFFFF_FFFB;
+        low = (low * 0x85EB_CA77 + byte) % 0xFFFF_FFFB;
     }
     high * 0x1_0000_0000 + low
 }
