@@ -40,7 +40,7 @@ DESCRIPTION_potterbeam_swtpm := State blobs of swtpm, proved
 
 # The archive of a library, or where there is neither rt nor a release what to do.
 ifneq ($(RT),)
-archive = $(RT) staticlib $(1) && cp target/staticlib/lib$(1).a $(2)
+archive = RT=$(RT) tools/archives $(1) && cp target/staticlib/lib$(1).a $(2)
 else
 archive = { [ -f prebuilt/x86_64/lib$(1).a ] || { echo "potterbeam: no archive: unpack a release, which has prebuilt/, or put the Rattle toolchain (rt) on the path" >&2; exit 1; }; } && \
 	cp prebuilt/x86_64/lib$(1).a $(2)

@@ -23,7 +23,7 @@ fn main() {
 fn link(library: &str, archive: &Path) {
     if !archive.exists() {
         eprintln!(
-            "{} is missing: run `rt staticlib {library}` first",
+            "{} is missing: run `tools/archives {library}` first",
             archive.display()
         );
         std::process::exit(1);

@@ -42,40 +42,26 @@ wanted() {
     fail "$thing is missing: please install the Debian packages $*"
 }
 
-# A copy of the toolchain's folder, all links except clang, which is a wrapper that keeps the module and its arguments.
-shadow_toolchain() {
-    local home machine part
+# The toolchain's folder with clang, llvm-ar and ld.lld.
+find_toolchain() {
     command -v rt > /dev/null || fail "rt is not there: the Rattle toolchain is needed"
-    home=${RATTLE_HOME:-$(cd "$(dirname "$(realpath "$(command -v rt)")")/.." && pwd)}
-    machine=$(uname -m)
-    real=$home/on/$machine/toolchain
-    shadow=$room/toolchain
-    mkdir -p "$shadow/on/$machine/toolchain/bin"
-    for part in "$home"/*; do [ "${part##*/}" = on ] || ln -s "$part" "$shadow/"; done
-    for part in "$home/on/$machine"/*; do [ "${part##*/}" = toolchain ] || ln -s "$part" "$shadow/on/$machine/"; done
-    for part in "$real"/*; do [ "${part##*/}" = bin ] || ln -s "$part" "$shadow/on/$machine/toolchain/"; done
-    for part in "$real/bin"/*; do [ "${part##*/}" = clang ] || ln -s "$part" "$shadow/on/$machine/toolchain/bin/"; done
-    cat > "$shadow/on/$machine/toolchain/bin/clang" <<END
-#!/bin/sh
-for word; do case \$word in *.bc) cp "\$word" "$room/module.bc" ;; esac; done
-printf '%s\n' "\$@" > "$room/words"
-exec "$real/bin/clang" "\$@"
-END
-    chmod +x "$shadow/on/$machine/toolchain/bin/clang"
+    real=$(dirname "$(rt doc)")/toolchain
 }
 
-# Proves a library, builds it for x86-64, and keeps its module. Compiled again with the same options the module must give the same object.
+# Proves a library, builds it for x86-64, and keeps its module and the options of clang. Compiled again with them it must give the same object.
 keep_module() {
-    local name=$1 again=$room/$1.again
-    rm -f "$room/module.bc" "$room/words"
-    RATTLE_HOME=$shadow rt staticlib "$name" > "$room/said" 2>&1 || { tail -n 5 "$room/said"; fail "rt staticlib $name"; }
-    [ -s "$room/module.bc" ] || fail "$name: rt handed no module to clang"
+    local name=$1 again=$room/$1.again object words
+    tools/archives --keep "$room" "$name" > "$room/said" 2>&1 || { tail -n 5 "$room/said"; fail "tools/archives $name"; }
+    cp "$room/$name.bc" "$room/module.bc"
+    cp "$room/$name.words" "$room/words"
+    # Its sysroot was a folder that is gone. No file of it is read.
+    mapfile -t words < <(sed "s,^--sysroot=.*,--sysroot=$real," "$room/words")
     mkdir "$again"
     cp "$room/module.bc" "$again/module.bc"
-    mapfile -t words < "$room/words"
+    object=$("$real/bin/llvm-ar" t "target/staticlib/lib$name.a")
+    [[ $object == *.o && $object != *$'\n'* ]] || fail "$name: one object is expected in its archive, and not: $object"
     (cd "$again" && "$real/bin/clang" "${words[@]}" && "$real/bin/llvm-ar" x "$OLDPWD/target/staticlib/lib$name.a") ||
         fail "$name: its module does not compile again"
-    [ "$(cd "$again" && echo *.o)" = "module.o $name.o" ] || fail "$name: other objects than expected: $(cd "$again" && echo *.o)"
-    cmp "$again/module.o" "$again/$name.o" || fail "$name: its module gives another x86-64 object"
+    cmp "$again/module.o" "$again/$object" || fail "$name: its module gives another x86-64 object"
     ok "$name: the module is the one that the x86-64 archive was compiled from"
 }

@@ -4,8 +4,8 @@
 //! makes the inputs of both sides. `pages`, `tpm` and `swtpm` are both sides of packer and mender, of H_TPM_COMM and of state blobs, which
 //! have libraries of their own.
 //!
-//! After `rt staticlib` of potterbeam, potterbeam_pages, potterbeam_tpm and potterbeam_swtpm: `cargo test --offline --release` for all
-//! tests, `cargo run --offline --release --example bench` for the times; `tests/differential/main.rs` describes the long run.
+//! After `tools/archives`: `cargo test --offline --release` for all tests, `cargo run --offline --release --example bench` for the times;
+//! `tests/differential/main.rs` describes the long run.
 //! POTTERBEAM_KIT_DIR names another directory with the archives.
 
 // Only calls to the library need unsafe code.

@@ -1,4 +1,6 @@
 // Attestation: the realm key command.
+#![tactic(auto)]
+
 ghost use Rattle.std.specs.Prelude.{◌≡◌, ◌+◌, ◌≤◌, length};
 ghost use Rattle.attest.specs.Key.{Keyed, key_rest, keyed, realm_key_of};
 

@@ -12,7 +12,7 @@ use Rattle.banks.specs.Banks.{Granules, Bank, bank_count, banks_of, ascend, reco
 use Rattle.banks.specs.Banks.{place_among, bank_place, granule_at}
 use Rattle.banks.specs.Fast.{no_bank, granule_in, bank_among, bank_of, found_in, found_from, first_bank, has_one_bank}
 use Rattle.banks.proofs.Passing.{Follows, follows_is, banks_from, left-more, left-none}
-use Rattle.banks.proofs.Laws.{nowhere, cond-at, holds-facts, ok-ascends, ok-few, past-bank, no-granules, some-granules, falls}
+use Rattle.banks.proofs.Laws.{cond-at, holds-facts, ok-ascends, ok-few, past-bank, no-granules, some-granules, falls}
 use Rattle.banks.proofs.Laws.{only-follows, only-granules, only-place, only-ok}
 
 -- a bank of the record, with the granules before it: a granule in that bank is the record's granule of the address

@@ -99,7 +99,7 @@ among_one low before [] x y i a m n h k = absurd (nowhere i h)
 among_one low before (b ∷ bs) x y i a m n h k =
     or_cases _ _ i _
     (λ p d. or_cases _ _ i _ (λ q e. same p d q e) (λ r. absurd (apart x p d (within y n r))) k)
-    (λ r. or_cases _ _ i _ (λ q e. absurd (apart y q e (within x m r))) (λ s. among_one _ _ bs x y i (both_r _ _ a) m n r s) k)
+    (λ r. or_cases _ _ i _ (λ q e. absurd (apart y q e (within x m r))) (λ s. among_one (b.base + b.size) (before + b.size / 4096) bs x y i (both_r _ _ a) m n r s) k)
     h
   where
     f : Follows low b.base b.size

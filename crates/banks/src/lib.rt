@@ -1,5 +1,7 @@
 // The granule record: memory in up to 16 banks. A record is 33 words: the number of banks, then base and size of each. The granule table
 // has the banks' granules in bank order; an address in a hole between banks is on no granule.
+#![tactic(auto)]
+
 ghost use Rattle.std.specs.Prelude.{◌≡◌, ◌/◌, ◌≤◌, pos, if◌then◌else◌};
 ghost use Rattle.codes.specs.Codes.{minus, number_of};
 ghost use Rattle.entries.specs.Entry.{bank_ok};

@@ -1,4 +1,6 @@
 // Cold and warm boot: each checks the boot registers, cold boot also checks the manifest, and both return the next boot record.
+#![tactic(auto)]
+
 ghost use Rattle.std.specs.Prelude.{◌≡◌};
 ghost use Rattle.reader.specs.Fast.{number_in};
 ghost use Rattle.boot.specs.Boot.{boot_number, is_fresh, cold_code, cold_next, after, cpu_code, warm_code, warm_next};

@@ -1,4 +1,6 @@
 // The checks that every command and lookup on the page starts with: record, page and the range of its buffer.
+#![tactic(auto)]
+
 ghost use Rattle.std.specs.Prelude.{◌≡◌, pos};
 ghost use Rattle.codes.specs.Codes.{boot_params, gated, gate_number};
 ghost use Rattle.buffer_check.specs.Range.{outside_code, range_code, place_of, page_code, page_number};

@@ -1,4 +1,6 @@
 // The runtime codes and the answer of a command.
+#![tactic(auto)]
+
 ghost use Rattle.std.specs.Prelude.{◌≡◌, cond, pos};
 ghost use Rattle.codes.specs.Codes.{number_of, x0_of, answer_of, is_ok, fails, is_up, boot_params};
 

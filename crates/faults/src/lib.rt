@@ -1,5 +1,7 @@
 // The first fault of a manifest page: the broken rule, its place in the page, and the word found there. Names, order and contents are in
 // docs/RULES.md, chapter 5.
+#![tactic(auto)]
+
 ghost use Rattle.std.specs.Prelude.{◌≡◌, ℕ, ◌+◌, ◌*◌, ◌%◌, ◌^◌, ◌<◌, ◌≤◌, true, length};
 ghost use Rattle.words.specs.Word.{num_at};
 ghost use Rattle.entries.specs.Entry.{size};

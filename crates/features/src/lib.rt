@@ -1,4 +1,6 @@
 // Features, key update and the forwarded error.
+#![tactic(auto)]
+
 ghost use Rattle.std.specs.Prelude.{◌≡◌, ltb, ◌+◌, ◌-◌, ◌^◌, ◌≤◌};
 ghost use Rattle.features.specs.Features.{features_of, update_of, forward_of};
 ghost use Rattle.codes.specs.Codes.{answer_of};

@@ -27,7 +27,7 @@ use Rattle.reader.specs.Answer.{fields_shown}
 use Rattle.reader.specs.Reading.{fields_of, reading_answer}
 use Rattle.reader.specs.declared.View.{View}
 use Rattle.reader.specs.declared.Reading.TheVariants.{Accepted}
-use Rattle.field_lookup.specs.Fields.{Asked, no_field, field, first_in, rest_in, nth_in, shown_tag, shown_value, of_tag, value_in, field_as}
+use Rattle.field_lookup.specs.Fields.{no_field, field, first_in, rest_in, nth_in, shown_tag, shown_value, of_tag, value_in, field_as}
 use Rattle.field_lookup.specs.Fields.{place_span}
 use Rattle.field_lookup.specs.Steps.{shown_from, start_at, place_nth, search_ends, place_tagged, nth_place, tag_place, is_nothing}
 

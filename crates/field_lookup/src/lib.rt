@@ -1,4 +1,6 @@
 // Lookups in the fields of the platform data (FD10), given a view and its page: by number, by tag, and with a cursor that walks over them.
+#![tactic(auto)]
+
 ghost use Rattle.std.specs.Prelude.{◌≡◌, length};
 ghost use Rattle.words.specs.Word.{span_start, on_from};
 ghost use Rattle.fields.specs.Steps.{step_at};

@@ -9,7 +9,6 @@ use Rattle.banks.specs.Banks.{Granules, granule_count, granule_at}
 use Rattle.banks.specs.declared.Granule.{Granule}
 use Rattle.banks.specs.declared.Granule.TheVariants.{Nothing, At}
 use Rattle.banks.proofs.Laws.{index_below}
-use Rattle.realm_words.specs.Bits.{realm_words}
 use Rattle.realm_words.specs.Answers.{realm_count_of, realm_next_of, realms, next_realm}
 use Rattle.realm_words.specs.declared.Number.{Number}
 use Rattle.realm_words.proofs.Laws.{count-agrees, next-agrees, words-put}

@@ -7,7 +7,7 @@ use native.Mathlib.Nat.{zero-add, add-zero, add-suc, suc-add}
 use native.Mathlib.Omega.{arith}
 use lib.Dec.{eqb}
 use lib.ListN.{length, take, get_or}
-use borrow.Author.Tests.{eqb-true, eqb-false, eq-eqb}
+use borrow.Author.Tests.{eqb-true, eqb-false}
 use Rattle.boot.specs.declared.Record.{Record}
 use Rattle.codes.specs.Codes.{is_up, boot_params, is_ok, is_false, fails, answer_of}
 use Rattle.codes.specs.declared.Code.{Code}

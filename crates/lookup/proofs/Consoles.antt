@@ -1,11 +1,11 @@
 -- A console by its name. Assumes nothing.
 use Prim.Native.Nat.{ℕ, zero, suc, ◌+◌, ◌-◌, ◌*◌, ◌/◌, ◌^◌, ◌≤◌, ◌<◌}
 use mathlib.Core.Path.{◌≡◌, refl, sym, ap, ◌∙◌}
-use mathlib.Core.Bool.{Bool, true, false, cond, false≢true}
+use mathlib.Core.Bool.{Bool, true, false, cond}
 use mathlib.Core.List.{List}
 use native.Mathlib.Omega.{arith}
 use native.Mathlib.Decide.{dec_lt}
-use lib.ListN.{length, get_or, drop}
+use lib.ListN.{length, get_or}
 use lib.Seq.{take_all}
 use lib.Dec.{eqb, leb, lit≤}
 use borrow.Author.Tests.{eqb-true, eq-eqb, ne_eqb, leb-true}
@@ -26,7 +26,6 @@ use Rattle.reader.specs.declared.Reading.TheVariants.{Accepted}
 use Rattle.lookup.specs.Fast.{word_of}
 use Rattle.lookup.proofs.Lookups.{word-there, word-unhidden}
 use Rattle.lookup.specs.Consoles.{has_name, first_from, console_named}
-use Rattle.lookup.specs.declared.ConsoleFound.{ConsoleFound}
 use Rattle.lookup.specs.declared.ConsoleFound.TheVariants.{At, Nothing}
 
 -- ---- for the loop

@@ -1,5 +1,7 @@
 // Lookups in a page's sections (RD12): an array as a part of the lent page, its number of entries, each word of an entry, and a console by
 // its name.
+#![tactic(auto)]
+
 ghost use Rattle.std.specs.Prelude.{◌≡◌, length};
 ghost use Rattle.words.specs.Word.{spanned, span_start, on_from};
 ghost use Rattle.reader.specs.Answer.{look_in, look_of, count_in, word_in, read_of};

@@ -1,4 +1,6 @@
 // The kept bytes that a manifest needs (KB5): the number of bytes at the page's start that no runtime command may change.
+#![tactic(auto)]
+
 ghost use Rattle.std.specs.Prelude.{◌≡◌, ◌≤◌, max};
 ghost use Rattle.versions.specs.Edition.{core};
 ghost use Rattle.manifest_extent.specs.Kept.{section_end, fields_reach, kept_for};

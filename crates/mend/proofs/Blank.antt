@@ -1,17 +1,17 @@
 -- Bytes set to zero, and the core's parts. Assumes nothing.
-use Prim.Native.Nat.{ℕ, zero, suc, ◌+◌, ◌-◌, ◌*◌, ◌≤◌, ◌<◌}
-use mathlib.Core.Bool.{Bool, true, false, cond, not, false≢true}
+use Prim.Native.Nat.{ℕ, zero, suc, ◌+◌, ◌-◌, ◌≤◌, ◌<◌}
+use mathlib.Core.Bool.{Bool, true, false, cond}
 use mathlib.Core.Path.{◌≡◌, refl, sym, ap, ◌∙◌}
 use mathlib.Core.List.{List, [], ◌∷◌, ◌++◌}
 use native.Mathlib.Omega.{arith}
-use native.Mathlib.Decide.{dec_lt, dec_le}
+use native.Mathlib.Decide.{dec_lt}
 use native.Mathlib.Nat.{not-suc-le-zero}
-use lib.ListN.{length, take, drop, get_or, length-take, length-append, length-drop, get_or-eq_default, get_or-append}
+use lib.ListN.{length, take, drop, get_or, length-take, length-append, get_or-eq_default, get_or-append}
 use lib.Seq.{ext_get_or, get_or-take, get_or-drop, get_or-append-add, length-take-le}
 use lib.Dec.{leb, ltb}
 use borrow.Author.Tests.{leb-true, ltb-true, lt-ltb, le-leb, lt-leb, le-ltb}
 use Rattle.words.specs.Tests.{Yes, both, either}
-use Rattle.words.specs.Word.{le_of, part, splice, laid}
+use Rattle.words.specs.Word.{le_of, part, splice}
 use Rattle.words.proofs.Tests.{both_l, both_r, both_of}
 use Rattle.words.proofs.Store.{length-splice, bytes-in, drop-splice}
 use Rattle.fields.proofs.Rules.{either-false}

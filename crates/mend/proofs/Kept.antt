@@ -1,11 +1,10 @@
 -- Which sections are kept, from the parts alone, without the page. Assumes nothing.
-use Prim.Native.Nat.{ℕ, zero, suc, ◌+◌, ◌≤◌, ◌<◌}
+use Prim.Native.Nat.{ℕ, zero, suc, ◌≤◌, ◌<◌}
 use mathlib.Core.Bool.{Bool, true, false, cond, not}
 use mathlib.Core.Path.{◌≡◌, refl, sym, ◌∙◌}
 use native.Mathlib.Omega.{arith}
 use native.Mathlib.Decide.{dec_lt}
 use native.Mathlib.Nat.{not-suc-le-zero}
-use lib.Dec.{eqb}
 use borrow.Author.Tests.{le-leb, ne_eqb, eq-eqb}
 use Rattle.words.specs.Tests.{Yes, both, either, every}
 use Rattle.words.proofs.Tests.{both_l, both_r, both_of, either_l, either_r, every-at, every_of, every-same}

@@ -6,22 +6,20 @@ use mathlib.Core.Logic.{◌⊎◌, inl, inr}
 use mathlib.Core.Path.{◌≡◌, refl, sym, ap, ◌∙◌}
 use mathlib.Core.List.{List, []}
 use native.Mathlib.Omega.{arith}
-use native.Mathlib.Decide.{dec_lt}
 use lib.ListN.{length, drop, get_or, length-drop}
 use lib.Seq.{ext_get_or, get_or-drop}
 use lib.Dec.{leb, ltb, eqb, lit≤}
-use borrow.Author.Tests.{leb-true, ltb-true, eqb-true, lt-ltb, le-ltb, lt-leb}
-use Rattle.words.specs.Tests.{Yes, both, either, every, some}
-use Rattle.words.specs.Word.{le_of, num_at, word_at, u32_at}
+use borrow.Author.Tests.{leb-true, ltb-true, eqb-true, lt-ltb, lt-leb}
+use Rattle.words.specs.Tests.{Yes, both, either, some}
+use Rattle.words.specs.Word.{le_of, num_at, word_at}
 use Rattle.words.proofs.Tests.{both_l, both_r, both_of, some_of, every-same, cond_same, either-cases}
 use Rattle.words.proofs.Read.{part_same}
 use Rattle.versions.specs.Edition.{section_count, core}
-use Rattle.versions.proofs.Editions.{section-count-most}
 use Rattle.entries.specs.Entry.{size}
 use Rattle.fields.specs.Fields.{ended, is_ended}
 use Rattle.fields.proofs.Withdrawn.{both-no}
-use Rattle.sections.specs.Page.{version_at, padding_at, count_at, pointer_at, check_at, in_page, array_at, PageSection, page_section, page_section_at}
-use Rattle.sections.specs.Page.{PagePlatform, page_platform, found_at, platform_at}
+use Rattle.sections.specs.Page.{version_at, padding_at, count_at, pointer_at, check_at, in_page, array_at, page_section, page_section_at}
+use Rattle.sections.specs.Page.{page_platform, found_at, platform_at}
 use Rattle.sections.specs.Section.{platform_ok, words_in, nothing, in_range, section_ok, Extent, extent, apart, clear_before, plat_extent}
 use Rattle.sections.specs.Section.{plat_clear}
 use Rattle.sections.specs.Steps.{ok_at, end_of, clear_at, clear_from, stays_at}
@@ -29,10 +27,9 @@ use Rattle.sections.proofs.Sections.{range-low}
 use Rattle.fields.proofs.Rules.{no_test}
 use Rattle.reader.proofs.Gaps.{some-not}
 use Rattle.mend.specs.Mend.{no_platform, no_section, plat_left, stays, after_mending, keeps_section, minor_at, edition_at, plat_left_at}
-use Rattle.mend.specs.Mend.{keeps_at, changed, part_at, of_part, blank, parts_zeroed}
+use Rattle.mend.specs.Mend.{keeps_at, changed, part_at, of_part, parts_zeroed}
 use Rattle.mend.specs.Steps.{page_to, plat_kept, section_goes}
-use Rattle.mend.specs.declared.PlatKept.{PlatKept}
-use Rattle.mend.proofs.Kept.{left-later, left-before, keeps-rule}
+use Rattle.mend.proofs.Kept.{left-later, left-before}
 use Rattle.mend.proofs.Blank.{blank-length, blank-at, part-zero, part-bounds, part_of, one-part}
 
 both-then : (a b c : Bool) → (Yes a → b ≡ c) → both a b ≡ both a c

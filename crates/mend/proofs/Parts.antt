@@ -18,7 +18,7 @@ use Rattle.fields.specs.Fields.{taken}
 use Rattle.fields.proofs.Withdrawn.{both-no}
 use Rattle.fields.specs.declared.FieldsEnd.{FieldsEnd}
 use Rattle.fields.specs.declared.FieldsEnd.TheVariants.{Broken, Ended}
-use Rattle.sections.specs.Page.{place_ok, version_at, padding_at, PagePlatform, page_platform, platform_at, found_at}
+use Rattle.sections.specs.Page.{place_ok, version_at, padding_at, page_platform, platform_at}
 use Rattle.sections.specs.Section.{platform_ok, plat_extent}
 use Rattle.sections.specs.Steps.{plat_end, stays_at}
 use Rattle.sections.proofs.Sections.{placed, plat-broken, plat-ended}
@@ -31,7 +31,7 @@ use Rattle.mend.specs.declared.PlatKept.{PlatKept}
 use Rattle.mend.specs.declared.Mended.{Mended}
 use Rattle.mend.specs.declared.Mended.TheVariants.{Done, Refused}
 use Rattle.mend.proofs.Blank.{blank_none, zeroed-blank}
-use Rattle.mend.proofs.Pages.{to-all, to-length, plat-to, goes_to}
+use Rattle.mend.proofs.Pages.{to-all, plat-to, goes_to}
 
 -- ---- zero bytes
 zeros-at : (n i : ℕ) → ◌≡◌ {A = ℕ} (get_or (replicate n 0) i 0) 0

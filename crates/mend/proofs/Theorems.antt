@@ -1,5 +1,5 @@
 -- MD1 to MD7, the claims of the mender, proved. Assumes nothing.
-use Prim.Native.Nat.{ℕ, zero, suc, ◌+◌, ◌*◌, ◌≤◌, ◌<◌, min}
+use Prim.Native.Nat.{ℕ, zero, suc, ◌≤◌, ◌<◌}
 use mathlib.Core.Bool.{Bool, true, false, cond, not}
 use mathlib.Core.Logic.{◌⊎◌, inl, inr}
 use mathlib.Core.Path.{◌≡◌, refl, sym, ap, ◌∙◌}
@@ -7,17 +7,17 @@ use mathlib.Core.List.{List}
 use native.Mathlib.Omega.{arith}
 use native.Mathlib.Decide.{dec_lt}
 use lib.ListN.{length, get_or}
-use lib.Dec.{ltb, eqb, lit≤}
-use lib.IntN.{ℤ, pos, negsuc}
-use borrow.Author.Tests.{eqb-true, ltb-true, lt-ltb, le-ltb, eq-eqb, not-false}
-use Rattle.words.specs.Tests.{Yes, both, either, some}
+use lib.Dec.{lit≤}
+use lib.IntN.{pos, negsuc}
+use borrow.Author.Tests.{eqb-true, lt-ltb, le-ltb, not-false}
+use Rattle.words.specs.Tests.{Yes, both, some}
 use Rattle.words.specs.Word.{word_at}
 use Rattle.words.proofs.Tests.{both_l, both_r, both_of}
-use Rattle.versions.specs.Version.{minor_of, version_ok}
+use Rattle.versions.specs.Version.{version_ok}
 use Rattle.versions.specs.Edition.{section_count, core, edition_ok}
 use Rattle.versions.proofs.Editions.{section-count-most, edition-of}
-use Rattle.sections.specs.Page.{place_ok, version_at, padding_at, count_at, pointer_at, check_at, PageSection, page_section, page_section_at}
-use Rattle.sections.specs.Page.{PagePlatform, page_platform, platform_at, found_at}
+use Rattle.sections.specs.Page.{place_ok, version_at, padding_at, count_at, pointer_at, check_at, page_section, page_section_at}
+use Rattle.sections.specs.Page.{platform_at}
 use Rattle.sections.specs.Section.{platform_ok, rules}
 use Rattle.sections.proofs.Sections.{placed}
 use Rattle.reader.specs.Answer.{Shown, PlatShown, ReaderAnswer, refused, shows, minus, shown, plat_shown, all_shown, reader_gate, judge}
@@ -29,7 +29,7 @@ use Rattle.reader.proofs.Newer.{never, gate-shows, gate-true}
 use Rattle.reader.proofs.Named.{rules-same, view-same}
 use Rattle.fields.proofs.Rules.{no_test}
 use Rattle.reader.proofs.Gaps.{some-not}
-use Rattle.mend.specs.Mend.{no_platform, no_section, plat_left, keeps_section, minor_at, edition_at, plat_left_at, keeps_at, changed, of_part}
+use Rattle.mend.specs.Mend.{no_platform, no_section, plat_left, minor_at, edition_at, plat_left_at, keeps_at, changed, of_part}
 use Rattle.mend.specs.Mend.{mend_changes, mend_gate, mended_of, mended_page, parts_zeroed}
 use Rattle.mend.specs.Steps.{page_to}
 use Rattle.mend.specs.Promise.{Mends}

@@ -2,10 +2,8 @@
 use Prim.Native.Nat.{ℕ}
 use mathlib.Core.Bool.{Bool, true, false, cond, true≢false}
 use mathlib.Core.Path.{◌≡◌, refl, sym, ap}
-use mathlib.Core.List.{List}
 use lib.ListN.{get_or, replicate}
 use lib.IntN.{ℤ, pos, negsuc}
-use Rattle.reader.specs.Reading.{refusal_number}
 use Rattle.reader.specs.declared.Refusal.{Refusal}
 use Rattle.reader.specs.declared.Refusal.TheVariants.{Place, Version, Rules}
 use Rattle.mend.specs.Report.{mended_number, flag_word, change_words, report_words}

@@ -1,5 +1,5 @@
 -- What MD1 to MD7 claim of the mender, for every page and base. Assumes nothing.
-use Rattle.std.specs.Prelude.{ℕ, zero, suc, ◌+◌, ◌≤◌, ◌<◌, Bool, false, cond, not, ◌⊎◌, ◌≡◌, List, eqb, length, get_or}
+use Rattle.std.specs.Prelude.{ℕ, suc, ◌≤◌, ◌<◌, false, cond, not, ◌⊎◌, ◌≡◌, List, eqb, length, get_or}
 use Rattle.words.specs.Tests.{Yes, both, either, every}
 use Rattle.versions.specs.Edition.{section_count}
 use Rattle.sections.specs.Page.{padding_at, count_at, pointer_at, check_at, page_section_at, platform_at}

@@ -1,7 +1,7 @@
 -- For the steps of `mend`. `to-all` (proofs/Pages.antt) proves `page_to 6` equal to `parts_zeroed`; `padding-step`, `plat-step` and
 -- `section-step` (proofs/Parts.antt) prove that `zeroed`, `plat_kept` and `section_goes` give `changed` and `page_to` for one more part.
 -- Assumes nothing.
-use Rattle.std.specs.Prelude.{ℕ, ◌+◌, Bool, cond, not, List, ltb}
+use Rattle.std.specs.Prelude.{ℕ, Bool, cond, not, List, ltb}
 use Rattle.words.specs.Tests.{both, some}
 use Rattle.words.specs.Word.{laid}
 use Rattle.versions.specs.Edition.{section_count}

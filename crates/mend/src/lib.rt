@@ -1,5 +1,7 @@
 // The mender: mends a damaged page in place, part by part. The reader's own rules decide whether a part is kept, on the page as mended so
 // far: a part that was dropped is zero there, so it cannot overlap a later part.
+#![tactic(auto)]
+
 ghost use Rattle.std.specs.Prelude.{true, not, [], ◌∷◌, ◌≡◌, ◌+◌, ◌*◌, min, eqb, length};
 ghost use Rattle.words.specs.Word.{le_bytes, bytes_of};
 ghost use Rattle.sections.specs.Page.{place_ok, padding_at, platform_at};

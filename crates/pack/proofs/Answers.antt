@@ -22,7 +22,6 @@ use Rattle.reader.specs.Answer.{Shown, PlatShown, shows, minus, read_of}
 use Rattle.reader.specs.Reading.{refusal_number, reading_answer, view_at, reading_of}
 use Rattle.reader.specs.Fast.{verdict_of}
 use Rattle.reader.specs.declared.Refusal.{Refusal}
-use Rattle.reader.specs.declared.Reading.TheVariants.{Refused}
 use Rattle.reader.specs.declared.Verdict.TheVariants as verdict
 use Rattle.reader.proofs.Whole.{reading-answer, refused-reads, fine-reads}
 use Rattle.writer_checks.specs.Description.{Description, used}

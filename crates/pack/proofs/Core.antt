@@ -1,5 +1,5 @@
 -- Laws of a judged core: the sizes of its arrays are those of the page. Assumes nothing.
-use Rattle.std.proofs.Common.{◌≡◌, ℕ, ◌+◌, ◌%◌, ◌<◌, ◌≤◌, List, length, arith}
+use Rattle.std.proofs.Common.{◌≡◌, ℕ, ◌<◌, ◌≤◌, List, length, arith}
 use Rattle.entries.specs.Entry.{size}
 use Rattle.sections.specs.Page.{count_at}
 use Rattle.sections.specs.Steps.{Copied}

@@ -1,5 +1,5 @@
 -- What is shown of a page can be written again: the writer makes its page. Assumes nothing.
-use Rattle.std.proofs.Common.{◌≡◌, ℕ, zero, suc, ◌+◌, ◌-◌, ◌*◌, ◌/◌, ◌%◌, ◌<◌, ◌≤◌, min, true, eqb, ltb, ◌⊎◌, List, [], ◌++◌, length, sym, refl, ap, ◌∙◌, inl, inr, arith, lit≤, length-append, le-ltb, lt-ltb, eq-eqb, ne_eqb, eqb-true, le-leb}
+use Rattle.std.proofs.Common.{◌≡◌, ℕ, zero, suc, ◌*◌, ◌/◌, ◌%◌, ◌<◌, ◌≤◌, min, true, eqb, ltb, ◌⊎◌, List, [], ◌++◌, length, sym, refl, ap, ◌∙◌, inl, inr, arith, lit≤, length-append, le-ltb, lt-ltb, eq-eqb, ne_eqb, eqb-true, le-leb}
 use native.Mathlib.Decide.{dec_lt, dec_le}
 use native.Mathlib.Nat.{mul-mod_right, mul-div_right}
 use Rattle.words.specs.Tests.{Yes, both, either}
@@ -20,7 +20,7 @@ use Rattle.sections.specs.Steps.{ok_at}
 use Rattle.sections.proofs.Sections.{placed, rules-at}
 use Rattle.sections.proofs.Spans.{added_up}
 use Rattle.sections.proofs.Room.{span_length, arrays-fit}
-use Rattle.reader.specs.Answer.{Shown, empty, PlatShown, shows, shown, shown_sec, plat_shown, all_shown, judge, read_of}
+use Rattle.reader.specs.Answer.{Shown, PlatShown, shows, shown, shown_sec, plat_shown, all_shown, judge, read_of}
 use Rattle.reader.proofs.Newer.{gate-shows}
 use Rattle.reader.proofs.Views.{shows-each}
 use Rattle.writer_checks.specs.Description.{Description, list_ok, lists_ok, later_sections_empty, plat_bytes, used}

@@ -1,5 +1,5 @@
 -- The packed page as a whole: its steps in sequence make the page that the writer makes. Assumes nothing.
-use Rattle.std.proofs.Common.{◌≡◌, ℕ, ◌+◌, ◌-◌, ◌*◌, ◌<◌, ◌≤◌, Bool, true, false, cond, eqb, List, [], ◌∷◌, ◌++◌, length, take, drop, replicate, sym, refl, ap, ◌∙◌, true≢false, append_assoc, add_assoc, zero-add, arith, length-append, length-drop, length-take-le, drop_at, le-ltb, lt-ltb, eq-eqb, eqb-true}
+use Rattle.std.proofs.Common.{◌≡◌, ℕ, ◌+◌, ◌-◌, ◌*◌, ◌<◌, ◌≤◌, Bool, true, false, cond, eqb, List, [], ◌∷◌, ◌++◌, length, take, drop, replicate, sym, refl, ap, ◌∙◌, true≢false, append_assoc, add_assoc, zero-add, arith, length-append, length-take-le, drop_at, le-ltb, lt-ltb, eq-eqb, eqb-true}
 use Rattle.words.specs.Word.{bytes_of, joined, splice, laid}
 use Rattle.words.proofs.Lists.{bytes_of-length, bytes_of-append, joined_length}
 use Rattle.words.proofs.Store.{length-splice, splice-splice, bytes-in, words-in}

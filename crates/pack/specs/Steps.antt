@@ -1,7 +1,7 @@
 -- For the steps and loops of `pack`. `told_same` (proofs/Answers.antt) proves `shown_description_at` equal to `shown_description` of what reader edition 4 shows;
 -- `sections-all` (proofs/Whole.antt) proves `section_moved` equal to the writer's `descriptor_at`; `movable` (proofs/Answers.antt) proves `Movable` of
 -- each section that is read. B is a multiple of 4,096, so pointer % 4096 is the offset in the page. Assumes nothing.
-use Rattle.std.specs.Prelude.{◌≡◌, ℕ, ◌+◌, ◌*◌, ◌%◌, ◌≤◌, cond, List, [], length, ◌==◌, ◌≢◌, nat_lt}
+use Rattle.std.specs.Prelude.{ℕ, ◌+◌, ◌*◌, ◌%◌, ◌≤◌, cond, List, [], length, ◌==◌, ◌≢◌, nat_lt}
 use Rattle.words.specs.Tests.{Yes}
 use Rattle.words.specs.Word.{word_at, joined}
 use Rattle.versions.specs.Edition.{section_count}

@@ -1,6 +1,8 @@
 // The packer: writes what a reader of edition 4 shows of a page into another lent page, without holes. Arrays and fields are copied once, from page to
 // page. Count, pointer and platform pointer are those of the core that the reader judged, never read from the page again: so every access stays within
 // the page and the target, even if another CPU writes the page during the call.
+#![tactic(auto)]
+
 ghost use Rattle.std.specs.Prelude.{◌≡◌, ℕ, ◌+◌, ◌*◌, ◌<◌, ◌≤◌, length, if◌then◌else◌, nat_eq, slice_index};
 ghost use Rattle.words.specs.Word.{bytes_of, joined, splice};
 ghost use Rattle.versions.specs.Edition.{section_count};

@@ -1,5 +1,7 @@
 // The signing queue: requests that wait to be signed, and responses that wait to be pulled. Each side is an array of eight by value, oldest
 // first; taking the oldest moves the others up. A count above eight, which no call leaves, counts as eight.
+#![tactic(auto)]
+
 ghost use Rattle.std.specs.Prelude.{◌≡◌, [], ◌≤◌, length, drop, get_or};
 ghost use Rattle.codes.specs.Codes.{answer_of};
 ghost use Rattle.queue.specs.Queue.{waiting, waiting_items, waiting_signed, signed_in, lists_of, appended, no_request, no_response, oldest_request, oldest_of};

@@ -1,5 +1,7 @@
 // The signing queue as a lent image of 210 words, for C. A call changes only the side that it needs, in place: it adds a row, or drops the
 // oldest. `queue_of` reads an image as a queue by value. Any image is a valid input, including one that no queue has.
+#![tactic(auto)]
+
 ghost use Rattle.std.specs.Prelude.{◌≡◌, min, ◌+◌, ◌-◌, ◌*◌, ◌<◌, ◌≤◌, length, get_or, replicate};
 ghost use Rattle.words.specs.Word.{part, words_of, splice};
 ghost use Rattle.queue.specs.Queue.{signed_in};

@@ -1,7 +1,7 @@
 -- Request E7: sample pages of edition 1 with a board name, a serial and a raw field, and what is shown and named of them; also pages whose
 -- fields are refused. Assumes nothing.
 use Prim.Native.Nat.{ℕ, ◌+◌}
-use mathlib.Core.Bool.{Bool, true, false}
+use mathlib.Core.Bool.{true, false}
 use mathlib.Core.Path.{◌≡◌, refl}
 use mathlib.Core.List.{List, [], ◌∷◌, ◌++◌, map}
 use lib.ListN.{replicate}
@@ -10,7 +10,7 @@ use Rattle.words.specs.Word.{le_of, le_bytes, part, num_at}
 use Rattle.versions.specs.Version.{minor_of, major_of, above_of, version_ok}
 use Rattle.versions.specs.Edition.{section_count, core, edition_ok}
 use Rattle.fields.specs.Fields.{mk_field, push, step, scan, scan_all, scan_of, judged, fields_ok, lengths_ok, length_ok, count, fields_in, is_ended}
-use Rattle.fields.specs.Fields.{taken, reach, raw, shown_field, shown_fields}
+use Rattle.fields.specs.Fields.{reach, raw, shown_field, shown_fields}
 use Rattle.sections.specs.Page.{place_ok, in_page, array_at, page_section, page_section_at, page_platform, found_at, platform_at}
 use Rattle.sections.specs.Section.{platform_ok, clear_before, plat_clear, rules}
 use Rattle.reader.specs.Answer.{refused, minus, shown, plat_shown, all_shown, reader_gate, judge, read_of, fields_shown, in_array, in_plat}

@@ -9,7 +9,7 @@ use native.Mathlib.Omega.{arith}
 use lib.ListN.{length}
 use borrow.Author.Tests.{leb-true, ltb-true, eqb-true}
 use Rattle.words.specs.Tests.{Yes, some}
-use Rattle.words.proofs.Tests.{both_l, both_r, either-cases, same_test}
+use Rattle.words.proofs.Tests.{both_l, both_r, either-cases}
 use Rattle.versions.specs.Version.{minor_of, version_ok}
 use Rattle.versions.specs.Edition.{section_count, core}
 use Rattle.entries.specs.Entry.{size}

@@ -16,7 +16,7 @@ use Rattle.words.proofs.Read.{part_same}
 use Rattle.versions.specs.Version.{minor_of, version_ok}
 use Rattle.versions.specs.Edition.{section_count, core}
 use Rattle.entries.specs.Entry.{size}
-use Rattle.fields.specs.Fields.{Scanned, broken, ended, scan_of, reach}
+use Rattle.fields.specs.Fields.{scan_of}
 use Rattle.fields.proofs.Same.{found-same}
 use Rattle.sections.specs.Page.{place_ok, version_at, count_at, pointer_at, in_page, array_at, PageSection, page_section_at, PagePlatform, found_at}
 use Rattle.sections.specs.Page.{platform_at}

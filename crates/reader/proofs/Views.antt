@@ -1,5 +1,5 @@
 -- What an accepted page shows, field by field. A definition that shows every page alike fails here. Assumes nothing.
-use Prim.Native.Nat.{ℕ, ◌+◌, ◌-◌, ◌*◌, ◌≤◌, ◌<◌, min}
+use Prim.Native.Nat.{ℕ, ◌+◌, ◌-◌, ◌*◌, ◌≤◌, ◌<◌}
 use mathlib.Core.Path.{◌≡◌, refl, sym, ap, ◌∙◌}
 use mathlib.Core.Bool.{true, false, cond}
 use mathlib.Core.List.{List}
@@ -8,7 +8,6 @@ use lib.ListN.{length}
 use borrow.Author.Tests.{le-leb, lt-ltb, ltb-true, eq-eqb, eqb-true}
 use Rattle.words.specs.Word.{part, word_at}
 use Rattle.words.proofs.Tests.{both_l, both_r, both_of}
-use Rattle.versions.specs.Version.{minor_of}
 use Rattle.versions.specs.Edition.{section_count, core}
 use Rattle.entries.specs.Entry.{words_per_entry, size, shown_words}
 use Rattle.entries.specs.Array.{words_at, entry_place}
@@ -16,11 +15,11 @@ use Rattle.entries.specs.Fast.{is_hidden}
 use Rattle.entries.proofs.Entries.{per-one, word-in}
 use Rattle.entries.proofs.Flags.{shown-word}
 use Rattle.fields.proofs.Rules.{no_test}
-use Rattle.sections.specs.Page.{version_at, count_at, pointer_at, page_section_at, page_platform, platform_at}
+use Rattle.sections.specs.Page.{count_at, pointer_at, page_section_at, page_platform, platform_at}
 use Rattle.sections.specs.Section.{in_range, rules_at}
 use Rattle.sections.specs.Steps.{ok_at}
 use Rattle.sections.proofs.Sections.{placed, range-low, range-high, ok-in-range, ok-each, rules-sections}
-use Rattle.reader.specs.Answer.{Shown, absent, empty, full, PlatShown, shows, shown, plat_shown, all_shown, judge, read_of, entry_word}
+use Rattle.reader.specs.Answer.{Shown, full, PlatShown, shows, shown, plat_shown, all_shown, judge, read_of, entry_word}
 use Rattle.reader.specs.Reading.{shown_as}
 use Rattle.reader.specs.Views.{PageShown}
 use Rattle.reader.specs.declared.Section.TheVariants.{Entries}

@@ -8,7 +8,7 @@ use native.Mathlib.Decide.{dec_lt}
 use lib.ListN.{length}
 use lib.Dec.{leb, eqb}
 use borrow.Author.Tests.{leb-true, ltb-true, le-leb, lt-ltb, le-ltb, eq-eqb, ne_eqb}
-use Rattle.words.specs.Tests.{Yes, both, either}
+use Rattle.words.specs.Tests.{Yes, both}
 use Rattle.words.proofs.Tests.{both_l, both_r, both_of, either-cases}
 use Rattle.words.specs.Word.{word_at}
 use Rattle.versions.specs.Version.{minor_of, version_ok}
@@ -20,7 +20,7 @@ use Rattle.sections.specs.Page.{place_ok, version_at, count_at, pointer_at, in_p
 use Rattle.sections.specs.Page.{platform_at}
 use Rattle.fields.specs.Fields.{ended, fields_in, shown_fields}
 use Rattle.sections.specs.Section.{platform_ok, words_in, in_range, rules_at}
-use Rattle.sections.specs.Steps.{Copied, ok_at, ok_to}
+use Rattle.sections.specs.Steps.{Copied, ok_at}
 use Rattle.sections.proofs.Sections.{placed, range-low, range-high, array-in, ok-in-range, ok-each, rules-sections, rules-pointer}
 use Rattle.reader.specs.Answer.{Shown, ReaderAnswer, shows, code_in, shown_in, shown, shown_sec, plat_shown, all_shown, reader_gate, judge}
 use Rattle.reader.specs.Answer.{read_of}

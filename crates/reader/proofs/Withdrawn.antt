@@ -1,28 +1,28 @@
 -- A reader's answer does not depend on a withdrawn value. Assumes nothing.
 use Prim.Native.Nat.{ℕ, ◌+◌, ◌-◌, min, ◌≤◌, ◌<◌}
-use mathlib.Core.Bool.{Bool, true, false, cond, false≢true}
+use mathlib.Core.Bool.{false, false≢true}
 use mathlib.Core.Path.{◌≡◌, refl, sym, ap, ◌∙◌}
-use mathlib.Core.List.{List, []}
+use mathlib.Core.List.{List}
 use native.Mathlib.Omega.{arith}
 use lib.ListN.{length, get_or, drop, length-drop}
 use lib.Seq.{get_or-drop}
 use lib.Dec.{ltb, eqb}
 use borrow.Author.Tests.{eqb-true, eq-eqb, ne_eqb, leb-true, ltb-true, le-leb}
-use Rattle.words.specs.Tests.{Yes, both, either, some, every}
+use Rattle.words.specs.Tests.{Yes, both, either, some}
 use Rattle.words.specs.Word.{word_at}
 use Rattle.words.proofs.Tests.{both_l, both_r, both_of, either-cases, every-at, every-same}
-use Rattle.versions.specs.Version.{minor_of, version_ok}
+use Rattle.versions.specs.Version.{minor_of}
 use Rattle.versions.specs.Edition.{section_count, core}
 use Rattle.entries.specs.Entry.{size}
-use Rattle.fields.specs.Fields.{Field, Scanned, broken, ended, bare, scan_of, fields_in, shown_fields, is_ended, taken, reach}
+use Rattle.fields.specs.Fields.{Field, Scanned, broken, ended, bare, fields_in, shown_fields, is_ended, taken, reach}
 use Rattle.fields.specs.Withdrawn.{in_withdrawn}
 use Rattle.fields.proofs.Rules.{no_test}
-use Rattle.fields.proofs.Withdrawn.{Alike, Like, both-no, like-scanned}
+use Rattle.fields.proofs.Withdrawn.{Like, both-no, like-scanned}
 use Rattle.sections.specs.Page.{version_at, padding_at, count_at, pointer_at, in_page, page_section, page_section_at, PageSection, PagePlatform}
 use Rattle.sections.specs.Page.{page_platform, found_at, platform_at}
 use Rattle.sections.specs.Section.{platform_ok, extent, apart, plat_extent, plat_clear, rules}
 use Rattle.sections.proofs.Sections.{placed}
-use Rattle.reader.specs.Answer.{Shown, PlatShown, shows, plat_shown, all_shown, judge, read_of, in_array, in_plat}
+use Rattle.reader.specs.Answer.{plat_shown, all_shown, judge, read_of, in_array, in_plat}
 use Rattle.reader.specs.Withdrawn.{withdrawn_byte, ValueUnread}
 use Rattle.reader.proofs.Newer.{gate-shows, gate-true}
 use Rattle.reader.proofs.Named.{core-same, sec-same, rules-same, view-same, low-page, found_in}

@@ -1,4 +1,6 @@
 // The manifest reader: checks a lent page in place and returns a view of offsets in it.
+#![tactic(auto)]
+
 ghost use Rattle.std.specs.Prelude.{◌≡◌, ℕ, min, ◌≤◌, ◌<◌};
 ghost use Rattle.versions.specs.Version.{minor_of};
 ghost use Rattle.versions.specs.Edition.{section_count};

@@ -1,4 +1,6 @@
 // The first Realm granule at or after an index, from the realm words (`realm_words`).
+#![tactic(auto)]
+
 ghost use Rattle.std.specs.Prelude.{◌≡◌, ◌-◌, ◌%◌, ◌^◌, ◌<◌};
 ghost use Rattle.std.specs.Int.Count.{count_trailing_zeros};
 ghost use Rattle.realm_words.specs.Answers.{hit_code, index_code, realm_next_of};

@@ -1,7 +1,7 @@
 -- Request E6: words and table agree, in plain facts: "granule i as bit i mod 64 of word i / 64, set where the byte is Realm, spare bits
 -- zero". Assumes nothing.
 use Prim.Native.Nat.{ℕ, zero, suc, ◌+◌, ◌*◌, ◌/◌, ◌%◌, ◌^◌, ◌≤◌, ◌<◌}
-use mathlib.Core.Path.{◌≡◌, refl, sym, ◌∙◌}
+use mathlib.Core.Path.{◌≡◌, sym, ◌∙◌}
 use mathlib.Core.List.{List}
 use native.Mathlib.Omega.{arith}
 use native.Mathlib.Nat.{pow-suc}
@@ -13,7 +13,7 @@ use borrow.Author.Tests.{ne_eqb}
 use Rattle.realm_words.specs.Bits.{bit_of, bit_at, realm_bit, words_for, realm_words}
 use Rattle.realm_words.specs.Answers.{WordsAgree}
 use Rattle.realm_words.proofs.Bits.{bit-zero, bit-suc}
-use Rattle.realm_words.proofs.Packing.{packed_lt, word_from, words-length, words-at, bit-any}
+use Rattle.realm_words.proofs.Packing.{packed_lt, words-length, words-at, bit-any}
 
 -- ---- a word is determined by its bits
 word_same : (n w v : ℕ) → w < 2 ^ n → v < 2 ^ n → ((k : ℕ) → k < n → bit_of w k ≡ bit_of v k) → w ≡ v

@@ -1,6 +1,6 @@
 -- Request E6: "If words and table agree the answers equal those of the full walk"; writing a granule's byte and bit together keeps
 -- agreement; "a build call sets it up". Words and table agree if the words are `realm_words` of the table. Assumes nothing.
-use Prim.Native.Nat.{ℕ, zero, suc, ◌+◌, ◌-◌, ◌*◌, ◌/◌, ◌%◌, ◌^◌, ◌≤◌, ◌<◌}
+use Prim.Native.Nat.{ℕ, zero, suc, ◌+◌, ◌-◌, ◌*◌, ◌/◌, ◌%◌, ◌^◌, ◌<◌}
 use mathlib.Core.Path.{◌≡◌, refl, sym, ap, ◌∙◌}
 use mathlib.Core.Bool.{Bool, true, false, cond}
 use mathlib.Core.List.{List, [], ◌∷◌}
@@ -9,7 +9,7 @@ use native.Mathlib.Nat.{not-suc-le-zero}
 use native.Mathlib.Decide.{dec_lt, ℕ_discrete}
 use lib.ListN.{length, get_or, set, take, drop, length-take, length-drop, length-set}
 use lib.Seq.{get_or-set_same, get_or-set_other, set_out, take-set-lt, take-set-le, drop-set-lt, drop-set-add}
-use borrow.Author.Tests.{lt-ltb, eq-eqb, eqb-true}
+use borrow.Author.Tests.{lt-ltb, eq-eqb}
 use Rattle.words.specs.Tests.{both, Yes}
 use Rattle.words.proofs.Tests.{both_of}
 use Rattle.realm_words.specs.declared.Number.{Number}

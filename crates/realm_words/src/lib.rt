@@ -1,4 +1,6 @@
 // Realm words, next to the granule table: granule i is bit i mod 64 of word i / 64, set if the table's byte is Realm; spare bits are zero.
+#![tactic(auto)]
+
 ghost use Rattle.std.specs.Prelude.{◌≡◌, ◌+◌, ◌%◌, ◌^◌, ◌<◌, ◌≤◌, length, take, drop};
 ghost use Rattle.std.specs.Int.Count.{ones};
 ghost use Rattle.realm_words.specs.Bits.{realm_bit, packed, words_for, with_bit};

@@ -1,14 +1,13 @@
 -- When the collector gives each of its refusals. Assumes nothing.
-use Prim.Native.Nat.{ℕ, ◌+◌, ◌≤◌, ◌<◌}
+use Prim.Native.Nat.{ℕ, ◌+◌, ◌≤◌}
 use mathlib.Core.Path.{◌≡◌, refl}
 use mathlib.Core.Bool.{Bool, true, false, not}
-use native.Mathlib.Omega.{arith}
 use native.Mathlib.Decide.{ℕ_discrete}
 use lib.Dec.{ltb, eqb}
 use borrow.Author.Tests.{le-ltb, lt-ltb, eq-eqb, ne_eqb}
 use Rattle.words.specs.Tests.{both}
 use Rattle.state_blobs.specs.Collect.{other_total, decide}
-use Rattle.state_blobs.specs.Reasons.{SameTotal, CollectorGives}
+use Rattle.state_blobs.specs.Reasons.{CollectorGives}
 use Rattle.state_blobs.specs.declared.Collector.{Collector}
 
 same : (a : Bool) (t total : ℕ) → (a ≡ true → t ≡ total) → both a (not (eqb t total)) ≡ false

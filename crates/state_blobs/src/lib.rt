@@ -1,4 +1,6 @@
 // The collector: joins the pieces of a state blob, each after the bytes held, in a buffer that the caller lends.
+#![tactic(auto)]
+
 ghost use Rattle.std.specs.Prelude.{◌≡◌, ◌+◌, ◌<◌, ◌≤◌, length};
 ghost use Rattle.state_blobs.specs.Collect.{new_collector, is_complete, other_total, decide, outcome, piece_appended, offer_bytes, collect};
 

@@ -1,4 +1,6 @@
 // The rules of platform token and challenge: definitions in specs/, laws and theorems in proofs/. The code is in `token`.
+#![tactic(auto)]
+
 ghost use Rattle.std.specs.Prelude.{◌≡◌};
 
 use codes::Answer;

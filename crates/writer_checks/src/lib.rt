@@ -1,4 +1,6 @@
 // The writer's checks of a description, W3 to W5: whole entries and valid fields, no entry of a section after the edition, and enough room.
+#![tactic(auto)]
+
 ghost use Rattle.std.specs.Prelude.{◌≡◌, ◌*◌, ◌%◌, ◌^◌, ◌≤◌, true, length, take, if◌then◌else◌, ◌≢◌, nat_le};
 ghost use Rattle.entries.specs.Entry.{entries_ok, sum};
 ghost use Rattle.fields.specs.Fields.{scan_of, describable};

@@ -1,7 +1,7 @@
 -- What the reader finds in one section and in the platform data that the writer makes, each by itself. Assumes nothing.
 use Prim.Native.Nat.{ℕ, zero, suc, ◌+◌, ◌-◌, ◌*◌, ◌/◌, ◌%◌, ◌^◌, ◌≤◌, ◌<◌}
-use mathlib.Core.Bool.{Bool, true, false≢true}
-use mathlib.Core.Path.{◌≡◌, refl, sym, ap, ◌∙◌}
+use mathlib.Core.Bool.{false≢true}
+use mathlib.Core.Path.{◌≡◌, refl}
 use mathlib.Core.List.{List, [], ◌∷◌, ◌++◌, append-nil, append_assoc}
 use native.Mathlib.Omega.{arith}
 use native.Mathlib.Nat.{div-add-mod, div-le_self}
@@ -16,7 +16,7 @@ use Rattle.versions.specs.Edition.{core}
 use Rattle.entries.specs.Entry.{words_per_entry, size, entries_ok, sum, check_ok}
 use Rattle.entries.proofs.Flags.{shown-plain}
 use Rattle.entries.specs.Array.{sound_of}
-use Rattle.fields.specs.Fields.{Field, Scanned, broken, ended, bare, scan, scan_all, scan_of, judged, fields_ok, lengths_ok, count, is_bare}
+use Rattle.fields.specs.Fields.{Scanned, broken, ended, bare, scan, scan_all, scan_of, judged, fields_ok, lengths_ok, count, is_bare}
 use Rattle.fields.specs.Fields.{is_ended, taken, fields_in, fields_described, describable, end_mark}
 use Rattle.fields.proofs.Marks.{description-read}
 use Rattle.sections.specs.Page.{in_page, array_at, PageSection, page_section, page_platform, found_at}

@@ -1,0 +1,68 @@
+use Rattle.std.proofs.Common.{length, ◌∙◌, arith, rules}
+use Rattle.sections.proofs.Sections.{placed}
+use Rattle.faults.proofs.Told.{told-padding, told-plat, told-top, told-sections, told-ends, told-overlaps}
+use Rattle.faults.proofs.rules_fault.Goals as goal
+
+pub returns-then-padding-ne0 : goal.returns-then-padding-ne0
+returns-then-padding-ne0 c =
+    let a = c.args in
+    c.found_at.ensures ∙ told-padding a.minor a.e.minor a.base a.page.now c.requires _
+    c.padding_at-padding.ensures c.if-padding-ne0.true
+
+pub plat_fault-requires : goal.plat_fault-requires
+plat_fault-requires c =
+    let a = c.args in
+    let p = placed a.base (length a.page.now) c.requires in
+    (p.0, omega (arith, p.3))
+
+pub returns-in_default : goal.returns-in_default
+returns-in_default c =
+    let a = c.args in
+    told-plat a.minor a.e.minor a.base a.page.now c.requires _
+    c.padding_at-padding.ensures c.if-padding-ne0.false _
+    c.word_at-plat.ensures _ c.plat_rule-end.ensures
+    c.in_default.is _ c.plat_fault.ensures
+
+pub sections_fault-told-requires : goal.sections_fault-told-requires
+sections_fault-told-requires c =
+    let a = c.args in omega (arith, (placed a.base (length a.page.now) c.requires).3)
+
+pub returns-in_default-told : goal.returns-in_default-told
+returns-in_default-told c =
+    let a = c.args in
+    told-sections a.minor a.e.minor a.base a.page.now c.requires _
+    c.padding_at-padding.ensures c.if-padding-ne0.false _ c.word_at-plat.ensures _
+    c.plat_rule-end.ensures _
+    c.in-Ended.is _ c.sections-n.ensures.0 _
+    c.sections_fault-told.ensures _ c.in_default-told.is
+
+pub overflow_add-plat : goal.overflow_add-plat
+overflow_add-plat c =
+    let a = c.args in
+    omega (
+      arith,
+      told-top a.minor a.e.minor a.base a.page.now c.requires _
+          c.padding_at-padding.ensures c.if-padding-ne0.false _ c.word_at-plat.ensures _
+          c.plat_rule-end.ensures _
+          c.in-Ended.is,
+    )
+
+pub overlaps-requires : goal.overlaps-requires
+overlaps-requires c =
+    let a = c.args in (
+      search rules,
+      told-ends a.minor a.e.minor a.base a.page.now c.requires _
+          c.padding_at-padding.ensures c.if-padding-ne0.false _ c.word_at-plat.ensures _
+          c.plat_rule-end.ensures _
+          c.in-Ended.is _ c.sections-n.ensures.0 _
+          c.sections_fault-told.ensures c.in-Clear.is,
+    )
+
+pub returns : goal.returns
+returns c =
+    let a = c.args in
+    told-overlaps a.minor a.e.minor a.base a.page.now c.requires _
+    c.padding_at-padding.ensures c.if-padding-ne0.false _ c.word_at-plat.ensures _
+    c.plat_rule-end.ensures _ c.in-Ended.is _
+    c.sections-n.ensures.0 _ c.sections_fault-told.ensures
+    c.in-Clear.is _ c.overlaps.ensures

@@ -1,0 +1,10 @@
+use mathlib.Core.Path.{ap, ◌∙◌}
+use Rattle.lookup.specs.Fast.{count_of}
+use Rattle.lookup.proofs.Lookups.{count-view}
+use Rattle.lookup.proofs.count_of.Goals as goal
+
+pub returns : goal.returns
+returns c =
+    let a = c.args in
+    c.count_in.ensures ∙ ap (λ s. count_of a.k s a.page.now) c.section_of.ensures ∙
+    count-view a.page.now a.view a.k

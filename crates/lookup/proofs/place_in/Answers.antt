@@ -1,0 +1,21 @@
+use mathlib.Core.Path.{sym, ap, ◌∙◌}
+use Rattle.words.specs.Word.{no_span}
+use Rattle.lookup.specs.Lookup.{span_of}
+use Rattle.lookup.proofs.place_in.Goals as goal
+
+pub returns-in-Absent : goal.returns-in-Absent
+unfolding span_of no_span
+returns-in-Absent c =
+    let a = c.args in
+    sym (ap (λ s. span_of a.k s a.room) c.in-Absent.is)
+
+pub returns-in-Empty : goal.returns-in-Empty
+unfolding span_of no_span
+returns-in-Empty c =
+    let a = c.args in
+    sym (ap (λ s. span_of a.k s a.room) c.in-Empty.is)
+
+pub returns-in-Entries : goal.returns-in-Entries
+returns-in-Entries c =
+    let a = c.args in
+    c.place_at.ensures ∙ sym (ap (λ s. span_of a.k s a.room) c.in-Entries.is)

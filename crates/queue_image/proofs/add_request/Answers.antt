@@ -1,0 +1,18 @@
+use native.Mathlib.Omega.{arith}
+use Rattle.queue_image.specs.Image.{request_words}
+use Rattle.queue_image.specs.Sides.{request_side}
+use Rattle.queue_image.proofs.InPlace.{row-full, row-joined}
+use borrow.Author.Rules.{rules}
+use Rattle.queue_image.proofs.add_request.Goals as goal
+
+pub returns-then-n-ge-PLACES : goal.returns-then-n-ge-PLACES
+returns-then-n-ge-PLACES c =
+    let a = c.args in
+    row-full request_side (request_words a.request) a.image.now (omega (arith, c.rows_waiting-n.ensures.0))
+
+pub returns : goal.returns
+returns c =
+    let a = c.args in
+    let n = c.rows_waiting-n in
+    row-joined request_side (request_words a.request) a.image.now n.result n.ensures.0 (omega arith) _
+    c.put_request.ensures (search rules)

@@ -1,0 +1,29 @@
+use mathlib.Core.Path.{ap}
+use mathlib.Core.List.{List}
+use native.Mathlib.Omega.{arith}
+use lib.ListN.{get_or}
+use Rattle.queue.specs.declared.Response.{Response}
+use Rattle.queue.specs.Queue.{no_response}
+use Rattle.queue_image.specs.Image.{held_in, queue_in}
+use Rattle.queue_image.proofs.Rows.{read_none, read_more, read_all}
+use borrow.Author.Rules.{rules}
+use Rattle.queue_image.proofs.responses_in.Goals as goal
+
+pub loop-i-init : goal.loop-i-init
+loop-i-init c = (search rules, read_none held_in 16 82 _ _)
+
+pub loop-i-preserved : goal.loop-i-preserved
+loop-i-preserved c =
+    let l = c.loop-i in (
+      search rules,
+      read_more held_in 16 82 c.args.image.now _ l.i l.items no_response _
+          l.invariant.1 (omega arith) c.response_in.ensures,
+    )
+
+pub returns : goal.returns
+unfolding queue_in
+returns c =
+    let l = c.loop-i in
+    let w = c.args.image.now in
+    ap (λ (items : List Response). record { items = items; count = get_or w 1 0 })
+    (read_all held_in 16 82 w _ l.i l.items l.invariant.1 (search rules) (omega arith))

@@ -1,0 +1,57 @@
+use Rattle.std.proofs.Common.{◌≡◌, ◌*◌, ◌/◌, ◌%◌, ◌^◌, ◌≤◌, length, sym, ap, ◌∙◌, true≢false, arith}
+use Rattle.entries.specs.Entry.{words_per_entry, entries_ok}
+use Rattle.entries.proofs.Entries.{per-one, per-other}
+use Rattle.writer_checks.proofs.Lists.{whole_room, list-part, list-whole, sum-all}
+use Rattle.writer_checks.proofs.sum_list.Goals as goal
+
+pub returns-then-words-step-ne0 : goal.returns-then-words-step-ne0
+returns-then-words-step-ne0 c =
+    let a = c.args in (
+      sym (list-part a.minor a.k a.words.now (rw c.entry_words-step.ensures.0 at c.if-words-step-ne0.true)),
+      λ e. absurd (true≢false (sym e)),
+    )
+
+pub consoles_ok-ok-requires : goal.consoles_ok-ok-requires
+consoles_ok-ok-requires c =
+    let a = c.args in
+    let n = length a.words.now in
+    let p : words_per_entry a.k ≡ 6 = ap words_per_entry c.if-k-eq1.true ∙ per-one in
+    let m : n / c.entry_words-step.result ≡ n / 6 = ap (λ x. n / x)
+    (c.entry_words-step.ensures.0 ∙ p) in
+    let r : 6 * (n / 6) ≤ n = rw p at (whole_room a.k n) in
+    omega arith
+
+pub returns-then-k-eq1 : goal.returns-then-k-eq1
+returns-then-k-eq1 c =
+    let a = c.args in
+    let w = c.entry_words-step in
+    let n = length a.words.now in (
+      c.consoles_ok-ok.ensures
+          ∙ ap (λ x. entries_ok a.minor x (n / w.result) a.words.now) (sym c.if-k-eq1.true)
+          ∙ ap (λ x. entries_ok a.minor a.k (n / x) a.words.now) w.ensures.0
+          ∙ sym (list-whole a.minor a.k a.words.now (rw w.ensures.0 at c.if-words-step-ne0.false)),
+      λ e. c.sum_of-sum.ensures,
+    )
+
+pub sum_banks-requires : goal.sum_banks-requires
+sum_banks-requires c =
+    let a = c.args in
+    let n = length a.words.now in
+    let p : words_per_entry a.k ≡ 2 = per-other a.k c.if-k-eq1.false in
+    let m : n / c.entry_words-step.result ≡ n / 2 = ap (λ x. n / x) (c.entry_words-step.ensures.0 ∙ p) in
+    let r : 2 * (n / 2) ≤ n = rw p at (whole_room a.k n) in
+    (c.if-k-eq1.false, omega arith)
+
+pub returns : goal.returns
+returns c =
+    let a = c.args in
+    let w = c.entry_words-step in
+    let n = length a.words.now in
+    let p : w.result ≡ 2 = w.ensures.0 ∙ per-other a.k c.if-k-eq1.false in
+    let z : n % 2 ≡ 0 = rw p at c.if-words-step-ne0.false in
+    let m : n / w.result ≡ n / 2 = ap (λ x. n / x) p in (
+      c.sum_banks.ensures.1
+          ∙ ap (λ x. entries_ok a.minor a.k (n / x) a.words.now) w.ensures.0
+          ∙ sym (list-whole a.minor a.k a.words.now (rw w.ensures.0 at c.if-words-step-ne0.false)),
+      λ e. c.sum_banks.ensures.0 ∙ ap (λ x. x % 2 ^ 64) (sum-all a.words.now (2 * (n / w.result)) (omega arith)),
+    )
