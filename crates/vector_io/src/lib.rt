@@ -21,7 +21,7 @@ fn digit(n: u64) -> u8 {
 }
 
 // Opens the file of that name in the current folder; none if it cannot be opened.
-fn open(rt: &impl Files<File = File>, name: &[u8]) -> Option<File> {
+fn open_case(rt: &impl Files<File = File>, name: &[u8]) -> Option<File> {
     let name = str::from_utf8(name).ok()?;
     File::open(rt, name).ok()
 }
@@ -32,7 +32,7 @@ pub fn load(rt: &impl Files<File = File>, n: u64, input: &mut [u8]) -> usize
     ensures { IsPrefixLen result input.new }
 {
     let name = [b'c', digit(n / 100), digit(n / 10), digit(n)];
-    let Some(file) = open(rt, &name) else {
+    let Some(file) = open_case(rt, &name) else {
         return 0;
     };
     let length = io::read_full(file.as_raw_fd(), input);
