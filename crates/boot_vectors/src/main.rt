@@ -1,10 +1,12 @@
 // Runs the boots of the numbered cases of data/, in turn, up to the first number without a case. A case is 8-byte words: the boot record
 // (0 fresh, 1 up, 2 closed, then its four values) and the number of steps. A step is cold (0) or warm (1), x0 to x3, the monitor's
 // maximum of CPUs, K, the page's length, and the page. Prints the code and the next record of each step.
+#![tactic(auto)]
+
 ghost use Rattle.std.specs.Prelude.{◌+◌, ◌≤◌};
 
 use boot::{BootResult, Params, Record};
-use libc::STDOUT_FILENO;
+use vector_io::STDOUT;
 use words::Span;
 
 // The record after a step, and the offset of the next step.
@@ -17,18 +19,18 @@ struct StepResult {
 fn print_record(state: Record) {
     match state {
         Record::Fresh => {
-            io::write_all(STDOUT_FILENO, b" fresh\n");
+            io::write_all(STDOUT, b" fresh\n");
         }
         Record::Up(params) => {
-            io::write_all(STDOUT_FILENO, b" up");
+            io::write_all(STDOUT, b" up");
             vector_io::print_word(params.cpus);
             vector_io::print_word(params.base);
             vector_io::print_word(params.minor);
             vector_io::print_word(params.kept);
-            io::write_all(STDOUT_FILENO, b"\n");
+            io::write_all(STDOUT, b"\n");
         }
         Record::Closed => {
-            io::write_all(STDOUT_FILENO, b" closed\n");
+            io::write_all(STDOUT, b" closed\n");
         }
     }
 }
@@ -48,11 +50,11 @@ fn magnitude(code: i32) -> u64 {
 }
 
 fn print_code(code: i32) {
-    io::write_all(STDOUT_FILENO, b"code ");
+    io::write_all(STDOUT, b"code ");
     if code < 0 {
-        io::write_all(STDOUT_FILENO, b"-");
+        io::write_all(STDOUT, b"-");
     }
-    io::print_decimal(STDOUT_FILENO, magnitude(code));
+    io::print_decimal(STDOUT, magnitude(code));
 }
 
 // Boots with the registers of the step at offset `at` of the case.
@@ -105,10 +107,10 @@ fn print_case(input: &[u8]) {
     }
 }
 
-fn main() {
+fn main(rt: HostRuntime) {
     let mut input = [0u8; 32768];
     for n in 0..1000u64 {
-        let length = vector_io::load(n, &mut input);
+        let length = vector_io::load(&rt, n, &mut input);
         if length == 0 {
             return;
         }

@@ -2,46 +2,48 @@
 // the boot record (0 fresh, 1 up, 2 closed, then its four values), the function id, x1 to x3, the offset of the granule record (see
 // `vector_io::granules_at`), which the realm words follow, MECIDWidthm1, the lengths of table, key and page; then these three, and table and
 // page expected at exit. Prints the answer, whether both are as expected, and the realm words.
+#![tactic(auto)]
+
 ghost use Rattle.std.specs.Prelude.{◌≤◌, length};
 
 use boot::Record;
 use codes::{Answer, Work};
-use libc::STDOUT_FILENO;
+use vector_io::STDOUT;
 use words::Span;
 
 fn print_answer(answer: Answer) {
-    io::write_all(STDOUT_FILENO, b"registers");
+    io::write_all(STDOUT, b"registers");
     vector_io::print_word(answer.x0);
     vector_io::print_word(answer.x1);
     vector_io::print_word(answer.x2);
-    io::write_all(STDOUT_FILENO, b"\n");
+    io::write_all(STDOUT, b"\n");
 }
 
 fn print_work(work: Work) {
     let Work::Reprogram(mecid) = work else {
         return;
     };
-    io::write_all(STDOUT_FILENO, b"reprogram");
+    io::write_all(STDOUT, b"reprogram");
     vector_io::print_word(mecid);
-    io::write_all(STDOUT_FILENO, b"\n");
+    io::write_all(STDOUT, b"\n");
 }
 
 // Prints the answer of a command that takes neither table nor page.
 fn print_other(state: Record, id: u64, x1: u64, width: u64) {
-    if id == 0x_c400_01_b4 {
+    if id == 0xC400_01B4 {
         print_answer(features::features(state, x1));
         return;
     }
-    if id == 0x_c400_01_b6 {
+    if id == 0xC400_01B6 {
         let updated = features::key_update(state, width, x1);
         print_answer(updated.answer);
         let work = updated.work;
         print_work(work);
         return;
     }
-    io::write_all(STDOUT_FILENO, b"forward");
+    io::write_all(STDOUT, b"forward");
     vector_io::print_word(features::forward(state, x1));
-    io::write_all(STDOUT_FILENO, b"\n");
+    io::write_all(STDOUT, b"\n");
 }
 
 // Runs the command of a case on its table, key and page, and prints the answer.
@@ -50,15 +52,15 @@ fn print_command(input: &[u8], table: &mut [u8], words: &mut [u64], key: &[u8], 
     let granules = vector_io::granules_at(input, 72);
     let id = words::word_at(input, 40);
     let x1 = words::word_at(input, 48);
-    if id == 0x_c400_01_b0 {
+    if id == 0xC400_01B0 {
         print_answer(granules::delegate(state, &granules, table, words, x1));
         return;
     }
-    if id == 0x_c400_01_b1 {
+    if id == 0xC400_01B1 {
         print_answer(granules::undelegate(state, &granules, table, words, x1));
         return;
     }
-    if id == 0x_c400_01_b2 {
+    if id == 0xC400_01B2 {
         let size = words::word_at(input, 56);
         let curve = words::word_at(input, 64);
         print_answer(attest::realm_key(state, page, key, x1, size, curve));
@@ -123,10 +125,10 @@ fn print_case(input: &[u8]) {
     print_lent(input, &mut table[..t], &mut words[..w], k, &mut page[..n]);
 }
 
-fn main() {
+fn main(rt: HostRuntime) {
     let mut input = [0u8; 32768];
     for n in 0..1000u64 {
-        let length = vector_io::load(n, &mut input);
+        let length = vector_io::load(&rt, n, &mut input);
         if length == 0 {
             return;
         }

@@ -1,4 +1,6 @@
 // The line of a platform field, written into a lent slice as far as it fits.
+#![tactic(auto)]
+
 ghost use Rattle.fields.specs.Fields.{raw};
 ghost use Rattle.text_lines.specs.Text.{field_text};
 ghost use Rattle.text_lines.specs.Steps.{place_text, LaidOver};

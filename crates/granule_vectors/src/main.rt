@@ -5,16 +5,18 @@
 // List: then table, addresses and the expected table. Prints the answer, whether the table is as expected, and the words.
 // Query: then the table. Prints count, next granule, whether words and table agree, whether the words were built, and the words.
 // Set-up: then the banks. Prints the code and the record at exit.
+#![tactic(auto)]
+
 ghost use Rattle.std.specs.Prelude.{◌≤◌, length};
 
 use boot::Record;
 use codes::Answer;
-use libc::STDOUT_FILENO;
 use realm_words::{Agreement, Hit, Number};
+use vector_io::STDOUT;
 use words::Span;
 
 fn print(text: &[u8]) {
-    io::write_all(STDOUT_FILENO, text);
+    io::write_all(STDOUT, text);
 }
 
 fn print_answer(answer: Answer) {
@@ -78,7 +80,7 @@ fn print_number(number: Number) {
         Number::Inval => print(b"count INVAL\n"),
         Number::Count(n) => {
             print(b"count ");
-            io::print_decimal(STDOUT_FILENO, n);
+            io::print_decimal(STDOUT, n);
             print(b"\n");
         }
     }
@@ -90,7 +92,7 @@ fn print_hit(hit: Hit) {
         Hit::Nothing => print(b"next none\n"),
         Hit::At(index) => {
             print(b"next ");
-            io::print_decimal(STDOUT_FILENO, index as u64);
+            io::print_decimal(STDOUT, index as u64);
             print(b"\n");
         }
     }
@@ -130,7 +132,7 @@ fn print_record(granules: &[u64; 33]) {
     print(b"record");
     for i in 0..33usize {
         print(b" ");
-        io::print_hex(STDOUT_FILENO, granules[i], 1);
+        io::print_hex(STDOUT, granules[i], 1);
     }
     print(b"\n");
 }
@@ -175,10 +177,10 @@ fn print_case(input: &[u8]) {
     print_lent(input, &mut table[..t], &mut words[..w], &mut list[..n]);
 }
 
-fn main() {
+fn main(rt: HostRuntime) {
     let mut input = [0u8; 12288];
     for n in 0..1000u64 {
-        let length = vector_io::load(n, &mut input);
+        let length = vector_io::load(&rt, n, &mut input);
         if length == 0 {
             return;
         }

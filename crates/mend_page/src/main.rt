@@ -1,13 +1,23 @@
 // Mends the manifest page on standard input: 8 bytes of B, then the page. Writes the mended page to standard output, and to standard error a line for
 // each of the six parts: whether it was changed. For a refused page, writes only the code, to standard error.
+#![tactic(auto)]
+
 ghost use Rattle.std.specs.Prelude.{◌≡◌, ◌+◌, ◌≤◌, length};
 ghost use Rattle.io.specs.Counts.{IsPrefixLen};
 ghost use Rattle.words.specs.Word.{splice};
 ghost use Rattle.mend_page.specs.Text.{line_text, changes_text, refusal_text, report_text, MendsInput};
 
-use libc::{STDERR_FILENO, STDIN_FILENO, STDOUT_FILENO};
 use mend::{Changes, Mended};
 use reader::Refusal;
+
+// The descriptor of standard input.
+const STDIN: i32 = 0;
+
+// The descriptor of standard output.
+const STDOUT: i32 = 1;
+
+// The descriptor of standard error.
+const STDERR: i32 = 2;
 
 // Copies `text` to offset `at`. Returns the offset after it.
 fn put(out: &mut [u8], at: usize, text: &[u8]) -> usize
@@ -83,12 +93,12 @@ fn mend_input(room: &mut [u8], n: usize) -> Mended
 // Reads standard input, mends the page, and writes the page and the report.
 fn main() {
     let mut input = [0u8; 4105];
-    let n = io::read_full(STDIN_FILENO, &mut input);
+    let n = io::read_full(STDIN, &mut input);
     let mended = mend_input(&mut input, n);
     let mut out = [0u8; 64];
     let written = put_report(&mut out, mended);
-    io::write_all(STDERR_FILENO, &out[..written]);
+    io::write_all(STDERR, &out[..written]);
     if mend::number(mended) == 0 {
-        io::write_all(STDOUT_FILENO, &input[8..4104]);
+        io::write_all(STDOUT, &input[8..4104]);
     }
 }

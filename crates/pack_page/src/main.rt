@@ -1,12 +1,19 @@
 // Packs the manifest page on standard input: 8 bytes of B, then the page. Writes the packed page to standard output, or one line with the refusal.
+#![tactic(auto)]
+
 ghost use Rattle.std.specs.Prelude.{◌≡◌, ◌≤◌, ◌<◌, length, take};
 ghost use Rattle.io.specs.Counts.{IsPrefixLen};
 ghost use Rattle.reader.specs.Reading.{refusal_number};
 ghost use Rattle.pack_page.specs.Prints.{refused_line, pack_printed, PacksAll};
 
-use libc::{STDIN_FILENO, STDOUT_FILENO};
 use pack::Packing;
 use reader::Refusal;
+
+// The descriptor of standard input.
+const STDIN: i32 = 0;
+
+// The descriptor of standard output.
+const STDOUT: i32 = 1;
 
 // Copies `text` to the start of `out`, which must hold it. Returns its length.
 fn put(out: &mut [u8], text: &[u8]) -> usize
@@ -56,8 +63,8 @@ fn show(room: &[u8], n: usize, out: &mut [u8]) -> usize
 // Reads standard input, packs the page and writes the result.
 fn main() {
     let mut input = [0u8; 4105];
-    let n = io::read_full(STDIN_FILENO, &mut input);
+    let n = io::read_full(STDIN, &mut input);
     let mut out = [0u8; 4096];
     let written = show(&input, n, &mut out);
-    io::write_all(STDOUT_FILENO, &out[..written]);
+    io::write_all(STDOUT, &out[..written]);
 }

@@ -1,45 +1,47 @@
 // Packs or mends the pages of the numbered cases of data/, in turn, up to the first number without a case. A case is four words: 0 to pack or
 // 1 to mend, B, the target's length and the byte that fills the target; then a page of any length. Prints the answer, the mark
 // (`vector_io::mark`) of the page afterwards, for a packed page also the mark after it is packed again, and the listing of the result.
-use libc::STDOUT_FILENO;
+#![tactic(auto)]
+
 use mend::Mended;
 use pack::Packing;
 use reader::Refusal;
+use vector_io::STDOUT;
 
 fn print_refused(code: Refusal) {
     match code {
         Refusal::Place => {
-            io::write_all(STDOUT_FILENO, b"refused -5\n");
+            io::write_all(STDOUT, b"refused -5\n");
         }
         Refusal::Version => {
-            io::write_all(STDOUT_FILENO, b"refused -6\n");
+            io::write_all(STDOUT, b"refused -6\n");
         }
         Refusal::Rules => {
-            io::write_all(STDOUT_FILENO, b"refused -7\n");
+            io::write_all(STDOUT, b"refused -7\n");
         }
     }
 }
 
 fn print_mark(name: &[u8], page: &[u8]) {
-    io::write_all(STDOUT_FILENO, name);
+    io::write_all(STDOUT, name);
     vector_io::print_word(vector_io::mark(page));
-    io::write_all(STDOUT_FILENO, b"\n");
+    io::write_all(STDOUT, b"\n");
 }
 
 fn print_listing(page: &[u8], base: u64) {
     let mut out = [0u8; 16384];
     let n = text::list(page, base, 4, &mut out);
-    io::write_all(STDOUT_FILENO, &out[..n]);
+    io::write_all(STDOUT, &out[..n]);
 }
 
 // Prints for each of the six parts whether it was changed.
 fn print_report(changed: [u64; 6]) {
-    io::write_all(STDOUT_FILENO, b"mended");
+    io::write_all(STDOUT, b"mended");
     for i in 0..6usize {
-        io::write_all(STDOUT_FILENO, b" ");
-        io::print_decimal(STDOUT_FILENO, changed[i]);
+        io::write_all(STDOUT, b" ");
+        io::print_decimal(STDOUT, changed[i]);
     }
-    io::write_all(STDOUT_FILENO, b"\n");
+    io::write_all(STDOUT, b"\n");
 }
 
 fn print_mended(page: &mut [u8], base: u64) {
@@ -59,7 +61,7 @@ fn print_mended(page: &mut [u8], base: u64) {
 
 // Packs a packed page again and prints its mark.
 fn print_again(page: &[u8], base: u64) {
-    let mut again = [0x_f_fu8; 4096];
+    let mut again = [0xFFu8; 4096];
     pack::pack(page, base, &mut again);
     print_mark(b"again", &again);
 }
@@ -67,7 +69,7 @@ fn print_again(page: &[u8], base: u64) {
 fn print_packed(page: &[u8], base: u64, target: &mut [u8]) {
     match pack::pack(page, base, target) {
         Packing::Page => {
-            io::write_all(STDOUT_FILENO, b"packed\n");
+            io::write_all(STDOUT, b"packed\n");
             print_mark(b"target", target);
             print_again(target, base);
             print_listing(target, base);
@@ -77,7 +79,7 @@ fn print_packed(page: &[u8], base: u64, target: &mut [u8]) {
             print_mark(b"target", target);
         }
         Packing::Target => {
-            io::write_all(STDOUT_FILENO, b"refused W1\n");
+            io::write_all(STDOUT, b"refused W1\n");
             print_mark(b"target", target);
         }
     }
@@ -102,9 +104,9 @@ fn print_case(input: &mut [u8]) {
 }
 
 // Runs case `n`. Returns false if there is no such case.
-fn print_numbered(n: u64) -> bool {
+fn print_numbered(rt: &HostRuntime, n: u64) -> bool {
     let mut input = [0u8; 8225];
-    let length = vector_io::load(n, &mut input);
+    let length = vector_io::load(rt, n, &mut input);
     if length == 0 {
         return false;
     }
@@ -112,9 +114,9 @@ fn print_numbered(n: u64) -> bool {
     true
 }
 
-fn main() {
+fn main(rt: HostRuntime) {
     for n in 0..1000u64 {
-        if !print_numbered(n) {
+        if !print_numbered(&rt, n) {
             return;
         }
     }

@@ -1,5 +1,7 @@
 // The kit for C and Rust: exports every entry except packer and mender (`potterbeam_pages`) with the prefix `pbeam_`. The caller lends each
 // state as an image of words; a result is a number or is written to lent words.
+#![tactic(auto)]
+
 ghost use Rattle.std.specs.Prelude.{◌≡◌, [], ◌∷◌, ℕ, ◌+◌, ◌*◌, ◌≤◌, ◌<◌, length, true, false};
 ghost use Rattle.words.specs.Word.{splice};
 ghost use Rattle.versions.specs.Edition.{section_count};
@@ -349,7 +351,7 @@ pub extern "C" fn pbeam_set_up_granules(granules: &mut [u64; 33], banks: &[u8], 
 
 // ---- Runtime commands ----
 
-// 0x_c40001_b0 (CM2): changes the granule at `address` to Realm.
+// 0xC40001B0 (CM2): changes the granule at `address` to Realm.
 #[unsafe(no_mangle)]
 pub extern "C" fn pbeam_delegate(
     state: &[u64; 5],
@@ -359,7 +361,7 @@ pub extern "C" fn pbeam_delegate(
     address: u64,
     out: &mut [u64; 3],
 )
-    ensures { ◌≡◌ {A = MoveLeft} (record { out = out.exit.now; table = table.new; words = words.new })
+    ensures { ◌≡◌ {A = MoveLeft} (record { out = out.new; table = table.new; words = words.new })
         (move_in Direction.Delegate state.now granules.now table.old words.old address) }
 {
     *out = images::registers(granules::delegate(
@@ -371,7 +373,7 @@ pub extern "C" fn pbeam_delegate(
     ));
 }
 
-// 0x_c40001_b1 (CM3): changes the granule at `address` to Non-secure.
+// 0xC40001B1 (CM3): changes the granule at `address` to Non-secure.
 #[unsafe(no_mangle)]
 pub extern "C" fn pbeam_undelegate(
     state: &[u64; 5],
@@ -381,7 +383,7 @@ pub extern "C" fn pbeam_undelegate(
     address: u64,
     out: &mut [u64; 3],
 )
-    ensures { ◌≡◌ {A = MoveLeft} (record { out = out.exit.now; table = table.new; words = words.new })
+    ensures { ◌≡◌ {A = MoveLeft} (record { out = out.new; table = table.new; words = words.new })
         (move_in Direction.Undelegate state.now granules.now table.old words.old address) }
 {
     *out = images::registers(granules::undelegate(
@@ -403,7 +405,7 @@ pub extern "C" fn pbeam_delegate_list(
     addresses: &[u64],
     out: &mut [u64; 3],
 )
-    ensures { ◌≡◌ {A = MoveLeft} (record { out = out.exit.now; table = table.new; words = words.new })
+    ensures { ◌≡◌ {A = MoveLeft} (record { out = out.new; table = table.new; words = words.new })
         (move_list_in Direction.Delegate state.now granules.now table.old words.old addresses.now) }
 {
     *out = images::registers(granules::delegate_list(
@@ -425,7 +427,7 @@ pub extern "C" fn pbeam_undelegate_list(
     addresses: &[u64],
     out: &mut [u64; 3],
 )
-    ensures { ◌≡◌ {A = MoveLeft} (record { out = out.exit.now; table = table.new; words = words.new })
+    ensures { ◌≡◌ {A = MoveLeft} (record { out = out.new; table = table.new; words = words.new })
         (move_list_in Direction.Undelegate state.now granules.now table.old words.old addresses.now) }
 {
     *out = images::registers(granules::undelegate_list(
@@ -437,7 +439,7 @@ pub extern "C" fn pbeam_undelegate_list(
     ));
 }
 
-// 0x_c40001_b2 (CM4): writes the realm key to the page at `pa`.
+// 0xC40001B2 (CM4): writes the realm key to the page at `pa`.
 #[unsafe(no_mangle)]
 pub extern "C" fn pbeam_realm_key(
     state: &[u64; 5],
@@ -461,7 +463,7 @@ pub extern "C" fn pbeam_realm_key(
     ));
 }
 
-// 0x_c40001_b3 (CM5): writes the next hunk of the token to the page at `pa`. The session's image changes only if the call is accepted.
+// 0xC40001B3 (CM5): writes the next hunk of the token to the page at `pa`. The session's image changes only if the call is accepted.
 #[unsafe(no_mangle)]
 pub extern "C" fn pbeam_platform_token(
     state: &[u64; 5],
@@ -474,7 +476,7 @@ pub extern "C" fn pbeam_platform_token(
     csize: u64,
     out: &mut [u64; 3],
 )
-    ensures { ◌≡◌ {A = TokenLeft} (record { out = out.exit.now; page = page.new; session = session.new })
+    ensures { ◌≡◌ {A = TokenLeft} (record { out = out.new; page = page.new; session = session.new })
         (token_in state.now session.old page.old token.now busy pa size csize) }
 {
     // With `&token[..]` in place of `token` the compiler passes pointer and length of the token in registers. Saves about 2 ns.
@@ -513,7 +515,7 @@ pub extern "C" fn pbeam_challenge(
     codes::x0(token::challenge_code(record, page, pa, size, csize))
 }
 
-// 0x_c40001_b4 (CM6): the feature register at `index`.
+// 0xC40001B4 (CM6): the feature register at `index`.
 #[unsafe(no_mangle)]
 pub extern "C" fn pbeam_features(state: &[u64; 5], index: u64, out: &mut [u64; 3])
     ensures { out.new ≡ register_words (features_of (record_of state.now) index) }
@@ -521,7 +523,7 @@ pub extern "C" fn pbeam_features(state: &[u64; 5], index: u64, out: &mut [u64; 3
     *out = images::registers(features::features(images::record_of(state), index));
 }
 
-// 0x_c40001_b5 (CM7): push, pull or key, by `opcode`. An accepted push changes only the requests in the queue's image, an accepted pull only
+// 0xC40001B5 (CM7): push, pull or key, by `opcode`. An accepted push changes only the requests in the queue's image, an accepted pull only
 // the responses.
 #[unsafe(no_mangle)]
 pub extern "C" fn pbeam_token_signing(
@@ -535,7 +537,7 @@ pub extern "C" fn pbeam_token_signing(
     curve: u64,
     out: &mut [u64; 3],
 )
-    ensures { ◌≡◌ {A = SigningLeft} (record { out = out.exit.now; page = page.new; queue = queue.new })
+    ensures { ◌≡◌ {A = SigningLeft} (record { out = out.new; page = page.new; queue = queue.new })
         (signing_in state.now queue.old page.old key.now opcode pa size curve) }
 {
     // `&key[..]` for the same reason as in pbeam_platform_token.
@@ -553,7 +555,7 @@ pub extern "C" fn pbeam_token_signing(
     *out = images::registers(answer);
 }
 
-// 0x_c40001_b6 (CM8): writes what the platform must do to `work`.
+// 0xC40001B6 (CM8): writes what the platform must do to `work`.
 #[unsafe(no_mangle)]
 pub extern "C" fn pbeam_key_update(
     state: &[u64; 5],
@@ -572,7 +574,7 @@ pub extern "C" fn pbeam_key_update(
     *out = images::registers(answer);
 }
 
-// 0x_c400018_f (CM1): returns the error code for the Non-secure world.
+// 0xC400018F (CM1): returns the error code for the Non-secure world.
 #[unsafe(no_mangle)]
 pub extern "C" fn pbeam_forward(state: &[u64; 5], x1: u64) -> u64
     ensures { result ≡ forward_of (record_of state.now) x1 }
@@ -586,7 +588,7 @@ pub extern "C" fn pbeam_forward(state: &[u64; 5], x1: u64) -> u64
 // responses in the queue's image both change.
 #[unsafe(no_mangle)]
 pub extern "C" fn pbeam_sign(queue: &mut [u64; 210], signature: &[u8], out: &mut [u64; 3])
-    ensures { ◌≡◌ {A = SignLeft} (record { out = out.exit.now; queue = queue.new }) (sign_in queue.old signature.now) }
+    ensures { ◌≡◌ {A = SignLeft} (record { out = out.new; queue = queue.new }) (sign_in queue.old signature.now) }
 {
     *out = images::registers(responses::sign_image(queue, signature));
 }
@@ -665,7 +667,7 @@ pub extern "C" fn pbeam_realm_build(granules: &[u64; 33], table: &[u8], words: &
 
 // ---- Every command ----
 
-// work[0] after 0x_c400018_f; work[1] is err_code for the Non-secure world.
+// work[0] after 0xC400018F; work[1] is err_code for the Non-secure world.
 const WORK_FORWARD: u64 = 2;
 
 // Runs any runtime command: call[0] is the function id, call[1] to call[4] are x1 to x4. Only the platform token uses the session's image
@@ -689,7 +691,7 @@ pub extern "C" fn pbeam_call(
     work: &mut [u64; 2],
 )
     ensures { ◌≡◌ {A = CallLeft} (record {
-      out = out.exit.now;
+      out = out.new;
       work = work.new;
       page = page.new;
       table = table.new;

@@ -1,4 +1,6 @@
 // Packing and mending of manifest pages for C and Rust, for tools on a host. No boot and no runtime command needs them.
+#![tactic(auto)]
+
 ghost use Rattle.std.specs.Prelude.{◌≡◌, ℕ, ◌<◌, length, get_or};
 ghost use Rattle.pack.specs.Pack.{pack_of, target_after, packed_number};
 ghost use Rattle.mend.specs.Mend.{mended_of, mended_page};

@@ -1,5 +1,7 @@
-// State blobs for C and Rust; every function has the prefix pbeam_swtpm. A collector is a lent image of three 32-bit words. A call that can be refused
+// State blobs for C and Rust; every function has the prefix pbeam_swtpm, and `potterbeam_swtpm_c` exports each under its name. A collector is a lent image of three 32-bit words. A call that can be refused
 // returns 0 or the number of the refusal, and a refused call leaves every lent word and byte unchanged.
+#![tactic(auto)]
+
 ghost use Rattle.std.specs.Prelude.{◌≡◌};
 ghost use Rattle.state_messages.specs.Messages.{read_request, read_response, response_read, write_request, write_response};
 ghost use Rattle.state_blobs.specs.Collect.{is_complete, collect};
@@ -29,8 +31,7 @@ fn refusal_number(why: StateRefusal) -> u32
 }
 
 // Reads a request, whose command code must be `code`. Sets `parts` to code, state_flags, type and offset.
-#[unsafe(no_mangle)]
-pub extern "C" fn pbeam_swtpm_read_request(message: &[u8], code: u32, parts: &mut [u32; 4]) -> u32
+pub fn pbeam_swtpm_read_request(message: &[u8], code: u32, parts: &mut [u32; 4]) -> u32
     ensures { ◌≡◌ {A = PartsLeft} (record { answer = result; parts = parts.new })
         (request_left (read_request code message.now) parts.old) }
 {
@@ -45,8 +46,7 @@ pub extern "C" fn pbeam_swtpm_read_request(message: &[u8], code: u32, parts: &mu
 }
 
 // Writes a request at the start of the buffer, and its length to `len`.
-#[unsafe(no_mangle)]
-pub extern "C" fn pbeam_swtpm_write_request(
+pub fn pbeam_swtpm_write_request(
     buffer: &mut [u8],
     code: u32,
     flags: u32,
@@ -76,12 +76,7 @@ pub extern "C" fn pbeam_swtpm_write_request(
 }
 
 // Reads a response. Sets `parts` to state_flags, totlength, and the offset and length of its data in the message.
-#[unsafe(no_mangle)]
-pub extern "C" fn pbeam_swtpm_read_response(
-    message: &[u8],
-    largest: u32,
-    parts: &mut [u32; 4],
-) -> u32
+pub fn pbeam_swtpm_read_response(message: &[u8], largest: u32, parts: &mut [u32; 4]) -> u32
     ensures { ◌≡◌ {A = PartsLeft} (record { answer = result; parts = parts.new })
         (response_left (response_read (read_response largest message.now)) parts.old) }
 {
@@ -96,8 +91,7 @@ pub extern "C" fn pbeam_swtpm_read_response(
 }
 
 // Writes a response with the given data at the start of the buffer, and its length to `len`.
-#[unsafe(no_mangle)]
-pub extern "C" fn pbeam_swtpm_write_response(
+pub fn pbeam_swtpm_write_response(
     buffer: &mut [u8],
     largest: u32,
     res: u32,
@@ -106,8 +100,8 @@ pub extern "C" fn pbeam_swtpm_write_response(
     bytes: &[u8],
     len: &mut usize,
 ) -> u32
-    ensures* { λ r. ⌜ ◌≡◌ {A = WriteLeft} (record { answer = r; len = len.new; buffer = buffer.new })
-        (write_left (write_response largest (record { result = res; flags = flags; total = total; bytes = bytes.now }) buffer.old) len.old) ⌝ }
+    ensures { ◌≡◌ {A = WriteLeft} (record { answer = result; len = len.new; buffer = buffer.new })
+        (write_left (write_response largest (record { result = res; flags = flags; total = total; bytes = bytes.now }) buffer.old) len.old) }
 {
     let header = ResponseHeader {
         result: res,
@@ -136,8 +130,7 @@ fn collector_of(image: &[u32; 3]) -> Collector
 }
 
 // Adds the data of a response to the bytes held in the buffer.
-#[unsafe(no_mangle)]
-pub extern "C" fn pbeam_swtpm_collect(
+pub fn pbeam_swtpm_collect(
     image: &mut [u32; 3],
     message: &[u8],
     largest: u32,
@@ -159,16 +152,14 @@ pub extern "C" fn pbeam_swtpm_collect(
 }
 
 // Whether the whole blob is held.
-#[unsafe(no_mangle)]
-pub extern "C" fn pbeam_swtpm_complete(image: &[u32; 3]) -> bool
+pub fn pbeam_swtpm_complete(image: &[u32; 3]) -> bool
     ensures { result ≡ is_complete (collector_of image.now) }
 {
     collector_of(image).is_complete()
 }
 
 // The number of bytes held: the offset to ask for next.
-#[unsafe(no_mangle)]
-pub extern "C" fn pbeam_swtpm_held(image: &[u32; 3]) -> u32
+pub fn pbeam_swtpm_held(image: &[u32; 3]) -> u32
     ensures { result ≡ (collector_of image.now).held }
 {
     collector_of(image).held
@@ -176,8 +167,7 @@ pub extern "C" fn pbeam_swtpm_held(image: &[u32; 3]) -> u32
 
 // The archive's version, 0.4.0, as major * 65,536 + minor * 256 + patch. include/potterbeam_swtpm.h refers to this name, so an object that was compiled with
 // the header of another version does not link.
-#[unsafe(no_mangle)]
-pub extern "C" fn pbeam_swtpm_version_0_4_0() -> u64
+pub fn pbeam_swtpm_version_0_4_0() -> u64
     ensures { result ≡ 1024 }
 {
     1024

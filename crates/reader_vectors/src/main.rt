@@ -1,25 +1,27 @@
 // Reads the pages of the numbered cases of data/, in turn, up to the first number without a case. A case is 8 bytes of reader edition, 8 bytes
 // of B and a page of any length. Prints the listing, the result of the array lookup for sections 0 to 4 and, if the page is accepted,
 // the results of the field lookups and of console lookups for some names.
+#![tactic(auto)]
+
 use fields::FieldPlace;
-use libc::STDOUT_FILENO;
 use lookup::ConsoleFound;
 use reader::{Reading, View};
+use vector_io::STDOUT;
 
 fn print_array(page: &[u8], base: u64, edition: u64, k: usize) {
     let part = lookup::array(page, base, edition, k);
-    io::write_all(STDOUT_FILENO, b"array ");
-    io::print_decimal(STDOUT_FILENO, k as u64);
-    io::write_all(STDOUT_FILENO, b" ");
-    io::print_decimal(STDOUT_FILENO, part.len() as u64);
+    io::write_all(STDOUT, b"array ");
+    io::print_decimal(STDOUT, k as u64);
+    io::write_all(STDOUT, b" ");
+    io::print_decimal(STDOUT, part.len() as u64);
     vector_io::print_word(vector_io::mark(part));
-    io::write_all(STDOUT_FILENO, b"\n");
+    io::write_all(STDOUT, b"\n");
 }
 
 fn print_number(name: &[u8], n: u64) {
-    io::write_all(STDOUT_FILENO, name);
-    io::write_all(STDOUT_FILENO, b" ");
-    io::print_decimal(STDOUT_FILENO, n);
+    io::write_all(STDOUT, name);
+    io::write_all(STDOUT, b" ");
+    io::print_decimal(STDOUT, n);
 }
 
 // Prints tag, length and mark of the field that a lookup found, or that it is withdrawn, or that no field was found.
@@ -29,13 +31,13 @@ fn print_field(page: &[u8], field: FieldPlace) {
             print_number(b"", tag as u64);
             print_number(b"", len as u64);
             vector_io::print_word(vector_io::mark(field_lookup::value_of(page, field)));
-            io::write_all(STDOUT_FILENO, b"\n");
+            io::write_all(STDOUT, b"\n");
         }
         FieldPlace::Withdrawn => {
-            io::write_all(STDOUT_FILENO, b" withdrawn\n");
+            io::write_all(STDOUT, b" withdrawn\n");
         }
         FieldPlace::Nothing => {
-            io::write_all(STDOUT_FILENO, b" none\n");
+            io::write_all(STDOUT, b" none\n");
         }
     }
 }
@@ -54,7 +56,7 @@ fn print_index(page: &[u8], view: View, i: usize) {
 fn print_fields(page: &[u8], view: View) {
     let n = field_lookup::field_count(page, view);
     print_number(b"fields", n as u64);
-    io::write_all(STDOUT_FILENO, b"\n");
+    io::write_all(STDOUT, b"\n");
     for tag in 0..5u8 {
         print_tag(page, view, tag);
     }
@@ -66,14 +68,14 @@ fn print_fields(page: &[u8], view: View) {
 
 // Prints the index of the first console with a name.
 fn print_console(page: &[u8], view: View, text: &[u8], name: &[u8; 8]) {
-    io::write_all(STDOUT_FILENO, text);
+    io::write_all(STDOUT, text);
     match lookup::find_console(page, view, name) {
         ConsoleFound::At(i) => {
             print_number(b"", i as u64);
-            io::write_all(STDOUT_FILENO, b"\n");
+            io::write_all(STDOUT, b"\n");
         }
         ConsoleFound::Nothing => {
-            io::write_all(STDOUT_FILENO, b" none\n");
+            io::write_all(STDOUT, b" none\n");
         }
     }
 }
@@ -87,7 +89,7 @@ fn print_consoles(page: &[u8], view: View) {
 fn print_case(edition: u64, base: u64, page: &[u8]) {
     let mut out = [0u8; 16384];
     let n = text::list(page, base, edition, &mut out);
-    io::write_all(STDOUT_FILENO, &out[..n]);
+    io::write_all(STDOUT, &out[..n]);
     for k in 0..5usize {
         print_array(page, base, edition, k);
     }
@@ -110,10 +112,10 @@ fn print_input(input: &[u8]) {
     );
 }
 
-fn main() {
+fn main(rt: HostRuntime) {
     let mut input = [0u8; 8209];
     for n in 0..1000u64 {
-        let length = vector_io::load(n, &mut input);
+        let length = vector_io::load(&rt, n, &mut input);
         if length == 0 {
             return;
         }

@@ -5,13 +5,15 @@
 // 1 signer's step, 2 challenge lookup, 3 oldest request), function id, x1 to x4, busy, the places of token and signature, and the expected
 // change of page and of table: each an offset there, and the place of the new bytes. Prints each answer and the state after it, and at the
 // end of a case the whole queue and the words.
+#![tactic(auto)]
+
 ghost use Rattle.std.specs.Prelude.{◌≤◌, length};
 
 use codes::{Answer, Work};
-use libc::STDOUT_FILENO;
 use queue::{Queue, Request, Requests, Response, Responses, Waiting};
 use runtime::Reply;
 use token::Session;
+use vector_io::STDOUT;
 use words::Span;
 
 // The session and the queue, which each operation passes to the next.
@@ -62,21 +64,21 @@ fn session_at(input: &[u8]) -> Session {
 // ---- Printing ----
 
 fn print(text: &[u8]) {
-    io::write_all(STDOUT_FILENO, text);
+    io::write_all(STDOUT, text);
 }
 
 fn print_word(x: u64) {
     print(b" ");
-    io::print_hex(STDOUT_FILENO, x, 1);
+    io::print_hex(STDOUT, x, 1);
 }
 
 fn print_number(x: u64) {
     print(b" ");
-    io::print_decimal(STDOUT_FILENO, x);
+    io::print_decimal(STDOUT, x);
 }
 
 fn print_byte(x: u8) {
-    io::print_hex(STDOUT_FILENO, x as u64, 2);
+    io::print_hex(STDOUT, x as u64, 2);
 }
 
 // Prints bytes in hex and ends the line.
@@ -404,10 +406,10 @@ fn print_case(input: &[u8]) {
     );
 }
 
-fn main() {
+fn main(rt: HostRuntime) {
     let mut input = [0u8; 32768];
     for n in 0..1000u64 {
-        let length = vector_io::load(n, &mut input);
+        let length = vector_io::load(&rt, n, &mut input);
         if length == 0 {
             return;
         }

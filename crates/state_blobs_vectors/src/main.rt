@@ -2,9 +2,11 @@
 // each, on one collector and one buffer of 96 bytes: seven 8-byte words (the call, four numbers, the number of bytes of the buffer to lend,
 // the message's length), the message at offset 64, and at offset 160 the buffer expected after the call. Prints the answer, the collector,
 // whether it is complete, the parts last read, the length last written, and whether the buffer is as expected.
+#![tactic(auto)]
+
 ghost use Rattle.std.specs.Prelude.{◌≤◌, length, ◌≡◌};
 
-use libc::STDOUT_FILENO;
+use vector_io::STDOUT;
 
 fn wide(x: u32) -> u64 {
     x as u64
@@ -15,10 +17,10 @@ fn number_at(call: &[u8], at: usize) -> u32 {
 }
 
 fn print_numbers(what: &[u8], numbers: &[u32]) {
-    io::write_all(STDOUT_FILENO, what);
+    io::write_all(STDOUT, what);
     for i in 0..numbers.len() {
-        io::write_all(STDOUT_FILENO, b" ");
-        io::print_hex(STDOUT_FILENO, wide(numbers[i]), 8);
+        io::write_all(STDOUT, b" ");
+        io::print_hex(STDOUT, wide(numbers[i]), 8);
     }
 }
 
@@ -28,11 +30,11 @@ fn print_left(answer: u32, image: &[u32; 3], parts: &[u32; 4], len: usize) {
     print_numbers(b" collector", image);
     print_numbers(b" held", &[potterbeam_swtpm::pbeam_swtpm_held(image)]);
     if potterbeam_swtpm::pbeam_swtpm_complete(image) {
-        io::write_all(STDOUT_FILENO, b" complete");
+        io::write_all(STDOUT, b" complete");
     }
     print_numbers(b" parts", parts);
-    io::write_all(STDOUT_FILENO, b" length ");
-    io::print_decimal(STDOUT_FILENO, len as u64);
+    io::write_all(STDOUT, b" length ");
+    io::print_decimal(STDOUT, len as u64);
 }
 
 // Call 4 writes a request, 5 a response with the message as data.
@@ -91,9 +93,9 @@ fn print_call(
     let answer = make(call, &call[64..end], &mut buffer[..room], image, parts, len);
     print_left(answer, image, parts, *len);
     if vector_io::same(buffer, expected) {
-        io::write_all(STDOUT_FILENO, b" buffer as expected\n");
+        io::write_all(STDOUT, b" buffer as expected\n");
     } else {
-        io::write_all(STDOUT_FILENO, b" buffer not as expected\n");
+        io::write_all(STDOUT, b" buffer not as expected\n");
     }
 }
 
@@ -115,10 +117,10 @@ fn print_case(input: &[u8]) {
     }
 }
 
-fn main() {
+fn main(rt: HostRuntime) {
     let mut input = [0u8; 65536];
     for n in 0..1000u64 {
-        let length = vector_io::load(n, &mut input);
+        let length = vector_io::load(&rt, n, &mut input);
         if length == 0 {
             return;
         }

@@ -1,6 +1,8 @@
 // Building blocks of the listing's lines. Each function writes text at an offset of a lent slice, as far as it fits, and returns the offset after the
 // text, even if that is past the end of the slice: so the last offset is the length of the whole text. specs/ defines the text; `field_text` and
 // `text` write its lines.
+#![tactic(auto)]
+
 ghost use Rattle.std.specs.Prelude.{◌+◌, min, ◌≡◌};
 ghost use Rattle.text_lines.specs.Text.{newline, decimal, hex_text, byte_text, name_text, gap_text, value_text};
 ghost use Rattle.text_lines.specs.Steps.{last_offset, LaidOver};
@@ -9,8 +11,8 @@ ghost use Rattle.text_lines.specs.Steps.{last_offset, LaidOver};
 fn saturating_add(at: usize, n: usize) -> usize
     ensures { result ≡ min (at + n) last_offset }
 {
-    if 0x_ffff_ffff_ffff_ffff - at < n {
-        return 0x_ffff_ffff_ffff_ffff;
+    if 0xFFFF_FFFF_FFFF_FFFF - at < n {
+        return 0xFFFF_FFFF_FFFF_FFFF;
     }
     at + n
 }

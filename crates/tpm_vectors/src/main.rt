@@ -2,10 +2,12 @@
 // words: the memory's length, its seed, the session (0 none, any other number open); then for each call the five arguments, the response's
 // length and seed, and whether the platform forbids access and reports a fault. All calls of a case share the memory. Prints for each call
 // the place of the request and its digest, r3, r4, the session and the memory's digest.
+#![tactic(auto)]
+
 ghost use Rattle.std.specs.Prelude.{◌<◌, ◌≤◌};
 
-use libc::STDOUT_FILENO;
 use tpm::{Arguments, CommResult, TpmSession};
+use vector_io::STDOUT;
 
 // Fills `s` with the bytes of a seed: x becomes (171 * x + 11213) mod 65521, and a byte is the low eight bits of x.
 fn fill(s: &mut [u8], seed: u64) {
@@ -26,7 +28,7 @@ fn times_prime(x: u64) -> u64 {
 
 // The 64-bit FNV-1a hash.
 fn digest(s: &[u8]) -> u64 {
-    let mut x: u64 = 0x_cbf2_9_ce4_8422_2325;
+    let mut x: u64 = 0xCBF2_9CE4_8422_2325;
     for i in 0..s.len() {
         x = times_prime(x ^ words::widen(s[i]));
     }
@@ -34,8 +36,8 @@ fn digest(s: &[u8]) -> u64 {
 }
 
 fn print_word(what: &[u8], x: u64) {
-    io::write_all(STDOUT_FILENO, what);
-    io::print_hex(STDOUT_FILENO, x, 1);
+    io::write_all(STDOUT, what);
+    io::print_hex(STDOUT, x, 1);
 }
 
 // The absolute value of r3.
@@ -62,8 +64,8 @@ fn session_number(session: TpmSession) -> u64 {
 fn print_returned(returned: CommResult) {
     let code = returned.code;
     let session = returned.session;
-    io::write_all(STDOUT_FILENO, b" r3 -");
-    io::print_decimal(STDOUT_FILENO, magnitude(tpm::hcall_number(code)));
+    io::write_all(STDOUT, b" r3 -");
+    io::print_decimal(STDOUT, magnitude(tpm::hcall_number(code)));
     print_word(b" r4 ", returned.r4);
     print_word(b" session ", session_number(session));
 }
@@ -106,7 +108,7 @@ fn print_call(
     let returned = tpm::comm(session, asked, memory, &response[..n], forbidden, fault);
     print_returned(returned);
     print_word(b" memory ", digest(memory));
-    io::write_all(STDOUT_FILENO, b"\n");
+    io::write_all(STDOUT, b"\n");
     returned.session
 }
 
@@ -136,10 +138,10 @@ fn print_case(input: &[u8]) {
     print_lent(input, &mut memory, &mut response);
 }
 
-fn main() {
+fn main(rt: HostRuntime) {
     let mut input = [0u8; 32768];
     for n in 0..1000u64 {
-        let length = vector_io::load(n, &mut input);
+        let length = vector_io::load(&rt, n, &mut input);
         if length == 0 {
             return;
         }

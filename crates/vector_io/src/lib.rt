@@ -1,33 +1,44 @@
 // Loads the numbered case files of a test program (c000, c001, ..), and reads and prints what the test programs have in common.
+#![tactic(auto)]
+
 ghost use Rattle.std.specs.Prelude.{◌≡◌, min, ◌≤◌, ◌<◌};
 ghost use Rattle.io.specs.Counts.{IsPrefixLen};
 ghost use Rattle.words.specs.Word.{word_at};
 ghost use Rattle.vector_io.specs.Cases.{record_at, same_bytes, granules_at, words_from, read_into, fill_into, mark_of};
 
 use boot::{Params, Record};
-use libc::STDOUT_FILENO;
+use std::fs::File;
+use std::os::fd::AsRawFd;
+use std::rt::Files;
 use words::Span;
+
+// The descriptor of standard output.
+pub const STDOUT: i32 = 1;
 
 // The last decimal digit of n, in ASCII.
 fn digit(n: u64) -> u8 {
     48 + (n % 10) as u8
 }
 
+// Opens the file of that name in the current folder; none if it cannot be opened.
+fn open_case(rt: &impl Files<File = File>, name: &[u8]) -> Option<File> {
+    let name = str::from_utf8(name).ok()?;
+    File::open(rt, name).ok()
+}
+
 // Reads the bytes of case `n` to the start of `input`, as many as fit, and prints its number. Returns the number of bytes read, 0 if there
 // is no such case. The contents come from a file, so nothing is promised about them.
-pub fn load(n: u64, input: &mut [u8]) -> usize
+pub fn load(rt: &impl Files<File = File>, n: u64, input: &mut [u8]) -> usize
     ensures { IsPrefixLen result input.new }
 {
     let name = [b'c', digit(n / 100), digit(n / 10), digit(n)];
-    let fd = os::open_read(&name);
-    if fd < 0 {
+    let Some(file) = open_case(rt, &name) else {
         return 0;
-    }
-    let length = io::read_full(fd, input);
-    libc::close(fd);
-    io::write_all(STDOUT_FILENO, b"case ");
-    io::write_all(STDOUT_FILENO, &name[1..]);
-    io::write_all(STDOUT_FILENO, b"\n");
+    };
+    let length = io::read_full(file.as_raw_fd(), input);
+    io::write_all(STDOUT, b"case ");
+    io::write_all(STDOUT, &name[1..]);
+    io::write_all(STDOUT, b"\n");
     length
 }
 
@@ -86,11 +97,11 @@ pub fn fill_words(input: &[u8], at: usize, list: &mut [u64])
 
 // Prints a list of words on one line.
 pub fn print_words(list: &[u64]) {
-    io::write_all(STDOUT_FILENO, b"words");
+    io::write_all(STDOUT, b"words");
     for i in 0..list.len() {
         print_word(list[i]);
     }
-    io::write_all(STDOUT_FILENO, b"\n");
+    io::write_all(STDOUT, b"\n");
 }
 
 // Whether two slices have equal length and bytes.
@@ -110,12 +121,12 @@ pub fn same(a: &[u8], b: &[u8]) -> bool
 
 // Prints the name `what`, and whether `held` equals `expected`.
 pub fn print_same(what: &[u8], held: &[u8], expected: &[u8]) {
-    io::write_all(STDOUT_FILENO, what);
+    io::write_all(STDOUT, what);
     if same(held, expected) {
-        io::write_all(STDOUT_FILENO, b" as expected\n");
+        io::write_all(STDOUT, b" as expected\n");
         return;
     }
-    io::write_all(STDOUT_FILENO, b" not as expected\n");
+    io::write_all(STDOUT, b" not as expected\n");
 }
 
 // A 64-bit hash: length and bytes as digits in two bases, modulo the prime 2^32 - 5. No power of either base up to the 4,096th is a quotient
@@ -123,20 +134,20 @@ pub fn print_same(what: &[u8], held: &[u8], expected: &[u8]) {
 pub fn mark(part: &[u8]) -> u64
     ensures { result ≡ mark_of part.now }
 {
-    let mut high = part.len() as u64 % 0x_ffff_fffb;
+    let mut high = part.len() as u64 % 0xFFFF_FFFB;
     let mut low = high;
     for i in 0..part.len() {
         let byte = words::widen(part[i]);
-        high = (high * 0x9_e37_79_b1 + byte) % 0x_ffff_fffb;
-        low = (low * 0x85_eb_ca77 + byte) % 0x_ffff_fffb;
+        high = (high * 0x9E37_79B1 + byte) % 0xFFFF_FFFB;
+        low = (low * 0x85EB_CA77 + byte) % 0xFFFF_FFFB;
     }
     high * 0x1_0000_0000 + low
 }
 
 // Prints a space and a number in 16 hex digits.
 pub fn print_word(x: u64) {
-    io::write_all(STDOUT_FILENO, b" ");
-    io::print_hex(STDOUT_FILENO, x, 16);
+    io::write_all(STDOUT, b" ");
+    io::print_hex(STDOUT, x, 16);
 }
 
 // The boot record at the start of a case: word 0 is 1 for up (words 1 to 4 are its values), 2 for closed, any other number for fresh.

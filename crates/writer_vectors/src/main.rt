@@ -2,9 +2,11 @@
 // the byte that fills the page, the page's length, the number of words of each of the four lists, the lists; then the page
 // expected at exit, and in the remaining bytes the fields. Prints the answer, whether the page is as expected, and what readers of the four
 // editions show of a written page.
+#![tactic(auto)]
+
 ghost use Rattle.std.specs.Prelude.{◌≤◌, length};
 
-use libc::STDOUT_FILENO;
+use vector_io::STDOUT;
 use words::Span;
 use writer::Wrote;
 
@@ -37,22 +39,22 @@ fn number(answer: Wrote) -> u64 {
 fn print_reading(page: &[u8], base: u64, edition: u64) {
     let mut out = [0u8; 16384];
     let n = text::list(page, base, edition, &mut out);
-    io::write_all(STDOUT_FILENO, b"edition ");
-    io::print_decimal(STDOUT_FILENO, edition);
-    io::write_all(STDOUT_FILENO, b"\n");
-    io::write_all(STDOUT_FILENO, &out[..n]);
+    io::write_all(STDOUT, b"edition ");
+    io::print_decimal(STDOUT, edition);
+    io::write_all(STDOUT, b"\n");
+    io::write_all(STDOUT, &out[..n]);
 }
 
 // Prints the answer, whether the page is as expected, and, if it was written, what the four editions show of it.
 fn print_page(refusal: u64, base: u64, page: &[u8], expected: &[u8]) {
     if refusal != 0 {
-        io::write_all(STDOUT_FILENO, b"refused W");
-        io::print_decimal(STDOUT_FILENO, refusal);
-        io::write_all(STDOUT_FILENO, b"\n");
+        io::write_all(STDOUT, b"refused W");
+        io::print_decimal(STDOUT, refusal);
+        io::write_all(STDOUT, b"\n");
         vector_io::print_same(b"page", page, expected);
         return;
     }
-    io::write_all(STDOUT_FILENO, b"made\n");
+    io::write_all(STDOUT, b"made\n");
     vector_io::print_same(b"page", page, expected);
     for edition in 1..5u64 {
         print_reading(page, base, edition);
@@ -102,10 +104,10 @@ fn print_case(input: &[u8]) {
     print_written(input, &list, &mut room[..n]);
 }
 
-fn main() {
+fn main(rt: HostRuntime) {
     let mut input = [0u8; 32768];
     for n in 0..1000u64 {
-        let length = vector_io::load(n, &mut input);
+        let length = vector_io::load(&rt, n, &mut input);
         if length == 0 {
             return;
         }
