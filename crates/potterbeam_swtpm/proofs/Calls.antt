@@ -12,7 +12,7 @@ use Rattle.state_messages.specs.declared.StateRequest.{StateRequest}
 use Rattle.state_messages.specs.declared.StateRefusal.TheVariants as refusal
 use Rattle.state_messages.specs.declared.MessageWritten.TheVariants as wrote
 use Rattle.state_blobs.specs.Collect.{new_collector, is_complete, unchanged, piece_appended, collect}
-use Rattle.state_blobs.specs.Blobs.{Offer, Held, started, after_offer, after_offers, accepted_of, complete_over, Cuts, HoldsFirst, HoldsJoined}
+use Rattle.state_blobs.specs.Blobs.{Offer, started, after_offer, after_offers, accepted_of, complete_over, Cuts, HoldsFirst, HoldsJoined}
 use Rattle.state_blobs.specs.Blobs.{HoldsWhole}
 use Rattle.state_blobs.proofs.Collects.{collect-cases}
 use Rattle.state_blobs.proofs.E13.{held-are-first, complete-holds-blob}

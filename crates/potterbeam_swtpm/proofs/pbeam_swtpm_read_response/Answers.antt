@@ -1,0 +1,12 @@
+use mathlib.Core.Path.{sym, ◌∙◌}
+use Rattle.potterbeam_swtpm.specs.Exports.{response_left}
+use Rattle.potterbeam_swtpm.proofs.pbeam_swtpm_read_response.Goals as goal
+
+pub returns-in-Accepted : goal.returns-in-Accepted
+unfolding response_left
+returns-in-Accepted c = rw (sym c.read_response-read.ensures ∙ c.in-Accepted.is)
+
+pub returns-in-Refused : goal.returns-in-Refused
+unfolding response_left
+returns-in-Refused c =
+    rw (c.refusal_number.ensures, sym c.read_response-read.ensures ∙ c.in-Refused.is)
