@@ -1,5 +1,7 @@
 // Delegation. The granule table has one byte for each granule of the record's banks: 0 Non-secure, 1 Realm, 2 Root, 3 Secure. The realm
 // words have one bit for each granule.
+#![tactic(auto)]
+
 ghost use Rattle.std.specs.Prelude.{◌≡◌, true, ◌/◌, ◌<◌, ltb, eqb, length};
 ghost use Rattle.words.specs.Tests.{both, Yes};
 ghost use Rattle.codes.specs.Codes.{is_up, answer_of};

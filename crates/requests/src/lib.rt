@@ -1,4 +1,6 @@
 // Requests: read from their buffer and pushed to the queue.
+#![tactic(auto)]
+
 ghost use Rattle.std.specs.Prelude.{◌≡◌, List, ℕ, ◌≤◌, length};
 ghost use Rattle.queue.specs.Queue.{Lists, lists_of, signing_exit, exit_of};
 ghost use Rattle.queue_image.specs.OnImage.{ImageStep};

@@ -1,4 +1,6 @@
 // Responses: made by the signer's own step, and pulled into their buffer.
+#![tactic(auto)]
+
 ghost use Rattle.std.specs.Prelude.{◌≡◌, ◌+◌, ◌≤◌, length};
 ghost use Rattle.words.specs.Word.{splice};
 ghost use Rattle.queue.specs.Queue.{Lists, signed_in, lists_of, oldest_response, signing_exit, exit_of};

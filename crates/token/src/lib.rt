@@ -1,4 +1,6 @@
 // The platform token, sent in hunks, and the lookup of its challenge.
+#![tactic(auto)]
+
 ghost use Rattle.std.specs.Prelude.{◌≡◌, false, ◌+◌, ◌≤◌, length};
 ghost use Rattle.words.specs.Word.{part, splice, spanned, on_from};
 ghost use Rattle.buffer_check.specs.Range.{place_of};

@@ -1,0 +1,48 @@
+use mathlib.Core.Path.{sym, ◌∙◌}
+use native.Mathlib.Omega.{arith}
+use Rattle.granule_rules.proofs.Moving.{move-addr, move-shared, move-pas, move-ok}
+use Rattle.granules.proofs.move_at.Goals as goal
+
+pub returns-in_default : goal.returns-in_default
+returns-in_default c =
+    let a = c.args in
+    λ g e. move-addr a.params g a.direction a.table.now a.words.now a.address (sym e ∙ c.in_default.is)
+
+pub returns-then-is_shared_page : goal.returns-then-is_shared_page
+returns-then-is_shared_page c =
+    let a = c.args in
+    λ g e. move-shared a.params g a.direction a.table.now a.words.now a.address _
+    (sym e ∙ c.in-At.is) (sym c.is_shared_page.ensures ∙ c.if-is_shared_page.true)
+
+pub bounds-table-at : goal.bounds-table-at
+bounds-table-at c =
+    omega (
+      arith,
+      (c.requires _
+          c.in-At.is).0,
+    )
+
+pub returns-then-byte-from : goal.returns-then-byte-from
+returns-then-byte-from c =
+    let a = c.args in
+    λ g e. move-pas a.params g a.direction a.table.now a.words.now a.address _
+    (sym e ∙ c.in-At.is)
+    (sym c.is_shared_page.ensures ∙ c.if-is_shared_page.false)
+    (rw (← c.from_byte-from.ensures) c.if-byte-from.true)
+
+pub bounds-table-at-2 : goal.bounds-table-at-2
+bounds-table-at-2 c =
+    omega (arith, (c.requires _ c.in-At.is).0)
+
+pub put_bit-requires : goal.put_bit-requires
+put_bit-requires c =
+    (c.requires _ c.in-At.is).1
+
+pub returns : goal.returns
+returns c =
+    let a = c.args in
+    λ g e. rw c.put_bit.ensures
+    (move-ok a.params g a.direction a.table.now a.words.now a.address _
+    (sym e ∙ c.in-At.is) (sym c.is_shared_page.ensures ∙ c.if-is_shared_page.false)
+    (c.if-byte-from.false ∙ c.from_byte-from.ensures)
+    _ c.to_byte-to.ensures)

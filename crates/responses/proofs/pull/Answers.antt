@@ -1,0 +1,66 @@
+use mathlib.Core.Path.{◌≡◌, sym, ap, ◌∙◌}
+use lib.ListN.{length}
+use borrow.Author.Tests.{not-true, not-false}
+use Rattle.queue.specs.Queue.{Signed, waiting_signed, lists_of, signed_in, oldest_response, queue_holding}
+use Rattle.queue.proofs.Steps.{refuses, accepts}
+use Rattle.queue_image.proofs.Steps.{ok-is}
+use Rattle.response_rules.specs.Pull.{pull_code, pulled, pull_of}
+use Rattle.response_rules.proofs.Pulls.{ready-length, ready-first}
+use Rattle.response_rules.proofs.OnImages.{pull-passed}
+use borrow.Author.Rules.{rules}
+use Rattle.responses.proofs.pull.Goals as goal
+
+pub returns-then-not-is_ok : goal.returns-then-not-is_ok
+unfolding pull_of lists_of
+returns-then-not-is_ok c =
+    let a = c.args in
+    let b = a.buffer.now in
+    let q = lists_of a.queue in
+    let f : oldest_response (waiting_signed a.queue.responses) ≡ signed_in
+    c.first_response-response.result = ready-first a.queue.responses
+    c.first_response-response.result
+    c.first_response-response.ensures in
+    refuses (pull_code (length b) q) b q a.queue _ c.pull_code-checked.result _ c.refused.ensures
+    (sym (c.pull_code-checked.ensures q
+    (ready-length a.queue.responses ∙ sym c.response_count.ensures.0)
+    (λ z. ap (λ (x : Signed). length x.signature) f ∙ sym c.signature_len-len.ensures.0)))
+    (sym c.is_ok.ensures ∙ not-true c.is_ok.result c.if-not-is_ok.true-raw)
+
+pub put_response-requires : goal.put_response-requires
+unfolding lists_of
+put_response-requires c =
+    let a = c.args in
+    let b = a.buffer.now in
+    let q = lists_of a.queue in
+    let f : oldest_response (waiting_signed a.queue.responses) ≡ signed_in
+    c.first_response-response.result = ready-first a.queue.responses
+    c.first_response-response.result
+    c.first_response-response.ensures in
+    rw f at (pull-passed (length b) q (sym (c.pull_code-checked.ensures q
+    (ready-length a.queue.responses ∙ sym c.response_count.ensures.0)
+    (λ z. ap (λ (x : Signed). length x.signature) f ∙ sym c.signature_len-len.ensures.0)) ∙
+    ok-is _ (sym c.is_ok.ensures ∙ not-false c.is_ok.result c.if-not-is_ok.false-raw))).1
+
+pub returns : goal.returns
+unfolding pull_of pulled lists_of queue_holding
+returns c =
+    let a = c.args in
+    let b = a.buffer.now in
+    let q = lists_of a.queue in
+    let f : oldest_response (waiting_signed a.queue.responses) ≡ signed_in
+    c.first_response-response.result =
+    ready-first a.queue.responses c.first_response-response.result
+    c.first_response-response.ensures in
+    rw (
+      c.answer_with.ensures,
+      c.requests_from-same.ensures,
+      c.responses_from-rest.ensures,
+      c.put_response.ensures,
+      ← f,
+    )
+    (accepts (pull_code (length b) q) b q a.queue 0 0 _ _
+    (sym (c.pull_code-checked.ensures q
+    (ready-length a.queue.responses ∙ sym c.response_count.ensures.0)
+    (λ z. ap (λ (x : Signed). length x.signature) f ∙ sym c.signature_len-len.ensures.0)) ∙
+    ok-is _ (sym c.is_ok.ensures ∙ not-false c.is_ok.result
+    c.if-not-is_ok.false-raw)))

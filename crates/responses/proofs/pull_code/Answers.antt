@@ -1,0 +1,18 @@
+use mathlib.Core.Path.{◌≡◌, refl, sym, ◌∙◌}
+use lib.ListN.{length}
+use Rattle.response_rules.proofs.Pulls.{pull-none, pull-long, pull-ok}
+use borrow.Author.Rules.{rules}
+use Rattle.responses.proofs.pull_code.Goals as goal
+
+pub returns-then-waiting-eq0 : goal.returns-then-waiting-eq0
+returns-then-waiting-eq0 c = λ q e f. sym (pull-none c.args.size q (e ∙ c.if-waiting-eq0.true))
+
+pub returns-then-size-len : goal.returns-then-size-len
+returns-then-size-len c = λ q e f.
+    let n : length q.responses ≡ 0 → ⊥ = λ z. c.if-waiting-eq0.false (sym e ∙ z) in
+    sym (pull-long c.args.size q n _ refl (rw (f n) c.if-size-len.true))
+
+pub returns : goal.returns
+returns c = λ q e f.
+    let n : length q.responses ≡ 0 → ⊥ = λ z. c.if-waiting-eq0.false (sym e ∙ z) in
+    sym (pull-ok c.args.size q n _ refl (rw (f n) c.if-size-len.false))

@@ -1,0 +1,58 @@
+use mathlib.Core.Path.{◌≡◌, sym, ◌∙◌}
+use Prim.Native.Nat.{◌<◌}
+use lib.ListN.{length}
+use borrow.Author.Tests.{not-true, not-false}
+use Rattle.codes.specs.declared.Code.TheVariants.{Ok}
+use Rattle.queue.specs.Queue.{waiting_signed, lists_of, queue_holding}
+use Rattle.queue.proofs.Sides.{joined-room}
+use Rattle.queue_image.proofs.Steps.{ok-is}
+use Rattle.response_rules.specs.Sign.{sign_code, signed, signed_by}
+use Rattle.response_rules.proofs.Pulls.{ready-length}
+use Rattle.response_rules.proofs.Signs.{sign-refuses, sign-accepts}
+use Rattle.response_rules.proofs.OnImages.{sign-passed}
+use borrow.Author.Rules.{rules}
+use Rattle.responses.proofs.sign.Goals as goal
+
+pub returns-then-not-is_ok : goal.returns-then-not-is_ok
+unfolding lists_of
+returns-then-not-is_ok c =
+    let a = c.args in
+    let q = lists_of a.queue in
+    sign-refuses q a.signature.now a.queue c.sign_code-checked.result _ c.refused.ensures
+    (sym (c.sign_code-checked.ensures q (sym c.request_count-waiting.ensures.0)
+    (ready-length a.queue.responses ∙ sym c.response_count.ensures.0)))
+    (sym c.is_ok.ensures ∙ not-true c.is_ok.result c.if-not-is_ok.true-raw)
+
+pub response_of-requires : goal.response_of-requires
+unfolding lists_of
+response_of-requires c =
+    let a = c.args in
+    let q = lists_of a.queue in
+    (sign-passed q a.signature.now (sym (c.sign_code-checked.ensures q
+    (sym c.request_count-waiting.ensures.0)
+    (ready-length a.queue.responses ∙ sym c.response_count.ensures.0)) ∙ ok-is _
+    (sym c.is_ok.ensures ∙ not-false c.is_ok.result
+    c.if-not-is_ok.false-raw))).0
+
+pub returns : goal.returns
+unfolding lists_of signed signed_by queue_holding
+returns c =
+    let a = c.args in
+    let q = lists_of a.queue in
+    let o : sign_code q a.signature.now ≡ Ok = sym (c.sign_code-checked.ensures q
+    (sym c.request_count-waiting.ensures.0)
+    (ready-length a.queue.responses ∙ sym c.response_count.ensures.0)) ∙
+    ok-is _ (sym c.is_ok.ensures ∙
+    not-false c.is_ok.result
+    c.if-not-is_ok.false-raw) in
+    let l : length (waiting_signed a.queue.responses) < 8 = (sign-passed q a.signature.now o).2 in
+    rw (
+      c.answer_with.ensures,
+      c.requests_from-rest.ensures,
+      c.join_response-more.ensures,
+      joined-room
+          (waiting_signed a.queue.responses) _ l,
+      c.response_of.ensures,
+      c.first_request-first.ensures,
+    )
+    (sign-accepts q a.signature.now a.queue o)
