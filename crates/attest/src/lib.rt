@@ -26,7 +26,7 @@ fn put_key(page: &mut [u8], key: &[u8], at: usize, size: u64, curve: u64) -> Ans
     codes::answer_with(Code::Ok, key.len() as u64, 0)
 }
 
-// 0x_c40001_b2 (CM4): writes the realm key that the platform lends into the buffer of `size` bytes at `pa`; x1 is the key's length.
+// 0xC40001B2 (CM4): writes the realm key that the platform lends into the buffer of `size` bytes at `pa`; x1 is the key's length.
 pub fn realm_key(
     state: Record,
     page: &mut [u8],

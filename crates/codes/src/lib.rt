@@ -46,11 +46,11 @@ pub fn x0(code: Code) -> u64
 {
     match code {
         Code::Ok => 0,
-        Code::Unk => 0x_ffff_ffff_ffff_ffff,
-        Code::BadAddr => 0x_ffff_ffff_ffff_fffe,
-        Code::BadPas => 0x_ffff_ffff_ffff_fffd,
-        Code::Inval => 0x_ffff_ffff_ffff_fffb,
-        Code::Again => 0x_ffff_ffff_ffff_fffa,
+        Code::Unk => 0xFFFF_FFFF_FFFF_FFFF,
+        Code::BadAddr => 0xFFFF_FFFF_FFFF_FFFE,
+        Code::BadPas => 0xFFFF_FFFF_FFFF_FFFD,
+        Code::Inval => 0xFFFF_FFFF_FFFF_FFFB,
+        Code::Again => 0xFFFF_FFFF_FFFF_FFFA,
     }
 }
 

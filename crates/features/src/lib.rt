@@ -30,7 +30,7 @@ pub struct UpdateResult {
     pub work: Work,
 }
 
-// 0x_c40001_b4 (CM6): returns feature register `index` in x1. Register 0 is 1: token signing is present.
+// 0xC40001B4 (CM6): returns feature register `index` in x1. Register 0 is 1: token signing is present.
 pub fn features(state: Record, index: u64) -> Answer
     ensures { result ≡ features_of state index }
 {
@@ -68,7 +68,7 @@ fn refused(code: Code) -> UpdateResult
     }
 }
 
-// 0x_c40001_b6 (CM8): returns the mecid to reprogram; `width` is MECIDWidthm1.
+// 0xC40001B6 (CM8): returns the mecid to reprogram; `width` is MECIDWidthm1.
 pub fn key_update(state: Record, width: u64, mecid: u64) -> UpdateResult
     ensures { result ≡ update_of state width mecid }
 {
@@ -94,7 +94,7 @@ pub fn key_update(state: Record, width: u64, mecid: u64) -> UpdateResult
     }
 }
 
-// 0x_c400018_f (CM1): returns the error code to forward to the Non-secure world, for any record. The command has no result.
+// 0xC400018F (CM1): returns the error code to forward to the Non-secure world, for any record. The command has no result.
 pub fn forward(state: Record, x1: u64) -> u64
     ensures { result ≡ forward_of state x1 }
 {

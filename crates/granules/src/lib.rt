@@ -235,7 +235,7 @@ fn move_list(
 
 // ---- the commands ----
 
-// 0x_c40001_b0 (CM2): makes the granule at `address` Realm, if it is Non-secure.
+// 0xC40001B0 (CM2): makes the granule at `address` Realm, if it is Non-secure.
 pub fn delegate(
     state: Record,
     granules: &GranulesImage,
@@ -253,7 +253,7 @@ pub fn delegate(
     codes::answer_with(code, 0, 0)
 }
 
-// 0x_c40001_b1 (CM3): makes the granule at `address` Non-secure, if it is Realm.
+// 0xC40001B1 (CM3): makes the granule at `address` Non-secure, if it is Realm.
 pub fn undelegate(
     state: Record,
     granules: &GranulesImage,

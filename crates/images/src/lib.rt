@@ -201,7 +201,7 @@ pub fn console_number(found: ConsoleFound) -> usize
 {
     match found {
         ConsoleFound::At(i) => i,
-        ConsoleFound::Nothing => 0x_ffff_ffff_ffff_ffff,
+        ConsoleFound::Nothing => 0xFFFF_FFFF_FFFF_FFFF,
     }
 }
 

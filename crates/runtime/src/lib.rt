@@ -43,14 +43,14 @@ pub fn kind_of(id: u64) -> Kind
     ensures { result ≡ kind_of id }
 {
     match id {
-        0x_c400_018_f => Kind::ForwardError,
-        0x_c400_01_b0 => Kind::Delegate,
-        0x_c400_01_b1 => Kind::Undelegate,
-        0x_c400_01_b2 => Kind::RealmKey,
-        0x_c400_01_b3 => Kind::PlatformToken,
-        0x_c400_01_b4 => Kind::Features,
-        0x_c400_01_b5 => Kind::TokenSigning,
-        0x_c400_01_b6 => Kind::KeyUpdate,
+        0xC400_018F => Kind::ForwardError,
+        0xC400_01B0 => Kind::Delegate,
+        0xC400_01B1 => Kind::Undelegate,
+        0xC400_01B2 => Kind::RealmKey,
+        0xC400_01B3 => Kind::PlatformToken,
+        0xC400_01B4 => Kind::Features,
+        0xC400_01B5 => Kind::TokenSigning,
+        0xC400_01B6 => Kind::KeyUpdate,
         _ => Kind::Unlisted,
     }
 }

@@ -131,7 +131,7 @@ fn serve(
     }
 }
 
-// 0x_c40001_b5 (CM7): push, pull or key by opcode, on the buffer of `size` bytes at `pa`. The platform lends its public key.
+// 0xC40001B5 (CM7): push, pull or key by opcode, on the buffer of `size` bytes at `pa`. The platform lends its public key.
 pub fn token_signing(
     state: Record,
     page: &mut [u8],
@@ -174,7 +174,7 @@ fn serve_image(
     }
 }
 
-// 0x_c40001_b5 (CM7) on the queue's image. No word of the image is read before the shared checks pass.
+// 0xC40001B5 (CM7) on the queue's image. No word of the image is read before the shared checks pass.
 pub fn token_signing_image(
     state: Record,
     page: &mut [u8],

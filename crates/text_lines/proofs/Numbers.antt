@@ -17,6 +17,7 @@ use Rattle.text_lines.specs.Text.{places_in, places, decimal, byte_text, name_by
 -- ---- decimal numbers
 -- ten to the power of one or more
 ten : (r : ℕ) → 0 < r → 10 ≤ 10 ^ r
+ten zero h = elim h [ ]
 ten (suc r) h = let p : 10 ^ 0 ≤ 10 ^ r = pow-le-pow_right (lit≤ tt) {i = 0} {j = r} (omega arith) in rw pow-suc (omega arith)
 
 -- one digit fewer

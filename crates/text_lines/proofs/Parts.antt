@@ -13,9 +13,9 @@ use types.Run.{OneOf}
 use denote.Enum.Declared.{tag_of}
 use borrow.Author.Tests.{eq-eqb, ne_eqb}
 use Rattle.words.specs.Tests.{both}
-use Rattle.words.specs.Word.{part, word_at, joined}
+use Rattle.words.specs.Word.{word_at, joined}
 use Rattle.entries.specs.Entry.{size}
-use Rattle.reader.specs.Answer.{ReaderAnswer, refused, read_of, empty, full, entry_word, fields_shown}
+use Rattle.reader.specs.Answer.{refused, read_of, empty, full, entry_word, fields_shown}
 use Rattle.reader.specs.Reading.{refusal_number, section_of, shown_as, reading_answer, reading_of}
 use Rattle.reader.specs.declared.Section.{Section}
 use Rattle.reader.specs.declared.Section.TheVariants.{Absent, Empty, Entries}

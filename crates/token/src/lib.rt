@@ -127,7 +127,7 @@ fn refused(code: Code, session: Session) -> TokenResult
     }
 }
 
-// 0x_c40001_b3 (CM5): writes the next hunk of the token that the platform lends into the buffer of `size` bytes at `pa`; x1 is the length of
+// 0xC40001B3 (CM5): writes the next hunk of the token that the platform lends into the buffer of `size` bytes at `pa`; x1 is the length of
 // the hunk, x2 of the rest. A nonzero `csize` starts again (CM5.9).
 pub fn platform_token(
     state: Record,

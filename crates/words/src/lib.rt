@@ -15,7 +15,7 @@ pub const PAGE_LEN: usize = 4096;
 pub const ADDRESS_LIMIT: u64 = 0x10_0000_0000_0000;
 
 // 2^52 - 4096, the highest base of the manifest's page.
-pub const BASE_MOST: u64 = 0x_f_ffff_ffff_f000;
+pub const BASE_MOST: u64 = 0xF_FFFF_FFFF_F000;
 
 // A part of a slice: the `len` bytes [at, at + len).
 #[derive(Clone, Copy)]

@@ -7,7 +7,6 @@ use Rattle.queue_image.proofs.Steps.{ok-is}
 use Rattle.response_rules.specs.Pull.{pull_code, pulled, pull_of}
 use Rattle.response_rules.proofs.Pulls.{ready-length, ready-first}
 use Rattle.response_rules.proofs.OnImages.{pull-passed}
-use borrow.Author.Rules.{rules}
 use Rattle.responses.proofs.pull.Goals as goal
 
 pub returns-then-not-is_ok : goal.returns-then-not-is_ok

@@ -1,7 +1,6 @@
 use mathlib.Core.Path.{◌≡◌, refl, sym, ◌∙◌}
 use lib.ListN.{length}
 use Rattle.response_rules.proofs.Pulls.{pull-none, pull-long, pull-ok}
-use borrow.Author.Rules.{rules}
 use Rattle.responses.proofs.pull_code.Goals as goal
 
 pub returns-then-waiting-eq0 : goal.returns-then-waiting-eq0

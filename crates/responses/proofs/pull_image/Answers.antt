@@ -1,4 +1,4 @@
-use mathlib.Core.Path.{◌≡◌, sym, ap, ◌∙◌}
+use mathlib.Core.Path.{sym, ap, ◌∙◌}
 use lib.ListN.{length}
 use borrow.Author.Tests.{not-true, not-false}
 use Rattle.queue.specs.Queue.{Signed}
@@ -6,7 +6,6 @@ use Rattle.queue_image.specs.Image.{response_in, lists_in}
 use Rattle.queue_image.proofs.InPlace.{front-response-is}
 use Rattle.queue_image.proofs.Steps.{ok-is}
 use Rattle.response_rules.proofs.OnImages.{pull-image-refused, pull-room, pull-image-done}
-use borrow.Author.Rules.{rules}
 use Rattle.responses.proofs.pull_image.Goals as goal
 
 pub returns-then-not-is_ok : goal.returns-then-not-is_ok

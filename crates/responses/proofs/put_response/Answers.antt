@@ -1,8 +1,7 @@
-use mathlib.Core.Path.{◌≡◌, refl, sym, ap, ◌∙◌}
+use mathlib.Core.Path.{◌≡◌, sym, ◌∙◌}
 use native.Mathlib.Omega.{arith}
 use lib.ListN.{length}
 use lib.Seq.{length-take-le}
-use Rattle.queue.specs.Queue.{signed_in}
 use Rattle.response_rules.proofs.Laid.{response-laid}
 use borrow.Author.Rules.{rules}
 use Rattle.responses.proofs.put_response.Goals as goal

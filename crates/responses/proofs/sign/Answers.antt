@@ -10,7 +10,6 @@ use Rattle.response_rules.specs.Sign.{sign_code, signed, signed_by}
 use Rattle.response_rules.proofs.Pulls.{ready-length}
 use Rattle.response_rules.proofs.Signs.{sign-refuses, sign-accepts}
 use Rattle.response_rules.proofs.OnImages.{sign-passed}
-use borrow.Author.Rules.{rules}
 use Rattle.responses.proofs.sign.Goals as goal
 
 pub returns-then-not-is_ok : goal.returns-then-not-is_ok

@@ -1,10 +1,9 @@
-use mathlib.Core.Path.{◌≡◌, sym, ◌∙◌}
+use mathlib.Core.Path.{sym, ◌∙◌}
 use borrow.Author.Tests.{not-true, not-false}
 use Rattle.queue_image.specs.Image.{lists_in}
 use Rattle.queue_image.proofs.Steps.{ok-is}
 use Rattle.response_rules.specs.Sign.{signed_by}
 use Rattle.response_rules.proofs.OnImages.{sign-passed, sign-image-refused, sign-image-done}
-use borrow.Author.Rules.{rules}
 use Rattle.responses.proofs.sign_image.Goals as goal
 
 pub returns-then-not-is_ok : goal.returns-then-not-is_ok
