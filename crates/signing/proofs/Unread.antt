@@ -1,6 +1,6 @@
 -- Only a push reads the page: for any other opcode and two pages of the same length the answer, and what then waits, are the same, also on
 -- the queue's image. Assumes nothing.
-use Prim.Native.Nat.{ℕ, ◌-◌}
+use Prim.Native.Nat.{ℕ}
 use mathlib.Core.Path.{◌≡◌, refl}
 use mathlib.Core.Bool.{Bool, true, false, cond}
 use mathlib.Core.List.{List}

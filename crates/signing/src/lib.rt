@@ -1,4 +1,6 @@
 // Token signing: push, pull and key by opcode, each on its buffer in the page.
+#![tactic(auto)]
+
 ghost use Rattle.std.specs.Prelude.{◌≡◌, ◌+◌, ◌≤◌, length};
 ghost use Rattle.buffer_check.specs.Range.{place_of};
 ghost use Rattle.codes.specs.Codes.{boot_params, gated};

@@ -1,0 +1,22 @@
+use borrow.Author.Tests.{ne_eqb}
+use Rattle.signing.specs.Signing.{opcode_of, is_other}
+use borrow.Author.Rules.{rules}
+use Rattle.signing.proofs.is_other.Goals as goal
+
+pub returns-in-1 : goal.returns-in-1
+unfolding opcode_of is_other
+returns-in-1 c = rw c.in-1.is
+
+pub returns-in-2 : goal.returns-in-2
+unfolding opcode_of is_other
+returns-in-2 c = rw c.in-2.is
+
+pub returns-in-3 : goal.returns-in-3
+unfolding opcode_of is_other
+returns-in-3 c = rw c.in-3.is
+
+pub returns-in_default : goal.returns-in_default
+unfolding opcode_of is_other
+returns-in_default c =
+    let a = c.args in
+    simp (ne_eqb a.opcode 1 (search rules), ne_eqb a.opcode 2 (search rules), ne_eqb a.opcode 3 (search rules))

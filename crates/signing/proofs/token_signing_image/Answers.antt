@@ -1,0 +1,38 @@
+use lib.ListN.{length}
+use Rattle.words.specs.Word.{part}
+use Rattle.codes.specs.Codes.{boot_params}
+use Rattle.buffer_check.specs.Range.{place_of}
+use Rattle.queue_image.specs.Image.{lists_in}
+use Rattle.queue_image.proofs.Steps.{image-refuses}
+use Rattle.signing.specs.Signing.{opcode_of, shared_code, op_at, signing_of}
+use Rattle.signing.specs.OnImage.{image_done, signing_done, signing_on}
+use Rattle.signing.proofs.Signings.{told-stop, told-room, told-served-on}
+use Rattle.signing.proofs.token_signing_image.Goals as goal
+
+pub serve_image-requires : goal.serve_image-requires
+serve_image-requires c =
+    let a = c.args in
+    told-room a.state a.page.now a.opcode a.pa a.size a.curve _
+    c.common_checks-gate.ensures _ c.in-Go.is
+
+pub returns-in-Stop : goal.returns-in-Stop
+unfolding signing_on signing_done signing_of
+returns-in-Stop c =
+    let a = c.args in
+    let g = told-stop a.state a.page.now a.opcode a.pa a.size a.curve _
+    c.common_checks-gate.ensures _ c.in-Stop.is in
+    rw (c.answer_with.ensures, ← g.0) (image-refuses (shared_code a.state (length a.page.now) (opcode_of a.opcode) a.pa
+    a.size
+    a.curve) (op_at (opcode_of a.opcode) (place_of (boot_params a.state) a.pa) a.size a.page.now (lists_in a.image.now)
+    a.key.now) a.page.now (lists_in a.image.now)
+    (image_done (opcode_of a.opcode) (part (place_of (boot_params a.state) a.pa) a.size a.page.now) a.image.now)
+    a.image.now
+    (rw (← g.0) at g.1))
+
+pub returns-in-Go : goal.returns-in-Go
+returns-in-Go c =
+    let a = c.args in
+    told-served-on a.state a.page.now a.opcode a.pa a.size a.curve _
+    c.common_checks-gate.ensures _
+    c.in-Go.is _ c.opcode_of.ensures
+    a.image.now a.key.now _ c.serve_image.ensures
