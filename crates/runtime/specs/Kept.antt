@@ -2,7 +2,7 @@
 use Rattle.std.specs.Prelude.{ℕ, ◌≡◌, false, ◌⊎◌, List, [], ◌∷◌, length, take}
 use Rattle.boot.specs.declared.Record.{Record}
 use Rattle.codes.specs.Codes.{is_up}
-use Rattle.runtime.specs.Step.{Call, Command, call, sign, list}
+use Rattle.runtime.specs.Step.{Command, call, sign, list}
 
 -- the first n bytes of the page and its length are unchanged (KB3)
 pub record KeptTo (n : ℕ) (page after : List ℕ) : Type 0 where

@@ -1,5 +1,5 @@
 -- Sequences of commands. Each call carries its boot record; all share one granule record g. Assumes nothing.
-use Rattle.std.specs.Prelude.{ℕ, Bool, true, false, cond, List, [], ◌∷◌, ◌++◌, map, take}
+use Rattle.std.specs.Prelude.{ℕ, Bool, false, cond, List, [], ◌∷◌, ◌++◌, map, take}
 use Rattle.words.specs.Word.{part}
 use Rattle.buffer_check.specs.Range.{place_of}
 use Rattle.codes.specs.Codes.{is_ok, boot_params}
@@ -18,7 +18,7 @@ use Rattle.signing.specs.declared.Opcode.TheVariants.{Push, Pull, Key, Other}
 use Rattle.runtime.specs.declared.Kind.{Kind}
 use Rattle.runtime.specs.declared.Kind.TheVariants.{ForwardError, Delegate, Undelegate, RealmKey, PlatformToken, Features}
 use Rattle.runtime.specs.declared.Kind.TheVariants.{TokenSigning, KeyUpdate, Unlisted}
-use Rattle.runtime.specs.Step.{World, Call, call_with, Command, call, sign, list, Step, kind_of, step_of, reply_code}
+use Rattle.runtime.specs.Step.{World, Call, call_with, Command, call, sign, list, kind_of, step_of, reply_code}
 
 -- the world after a command
 abbrev pub next_of : Granules → World → Command → World

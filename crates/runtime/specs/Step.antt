@@ -5,7 +5,6 @@ use Rattle.codes.specs.Codes.{answer_of}
 use Rattle.codes.specs.declared.Answer.{Answer}
 use Rattle.codes.specs.declared.Code.{Code}
 use Rattle.codes.specs.declared.Code.TheVariants.{Ok, Unk}
-use Rattle.codes.specs.declared.Work.{Work}
 use Rattle.codes.specs.declared.Work.TheVariants.{Nothing}
 use Rattle.granule_rules.specs.Granules.{GranuleTable, table_of, Moved, delegate_of, undelegate_of}
 use Rattle.granule_rules.specs.Lists.{move_list_of}

@@ -1,4 +1,6 @@
 // The runtime: one entry for every command, by its function id.
+#![tactic(auto)]
+
 ghost use Rattle.std.specs.Prelude.{◌≡◌};
 ghost use Rattle.queue.specs.Queue.{lists_of};
 ghost use Rattle.runtime.specs.Step.{world_of, call_with, kind_of, call_of, call_exit, exit_by};

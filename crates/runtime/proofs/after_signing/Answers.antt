@@ -1,0 +1,4 @@
+use Rattle.runtime.proofs.after_signing.Goals as goal
+
+pub returns : goal.returns
+returns c = rw c.back.ensures
