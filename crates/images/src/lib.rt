@@ -1,5 +1,7 @@
 // Converts states and answers to and from images, the arrays of 64-bit words that a C caller lends. Every image is accepted, including one
 // that no function here returns.
+#![tactic(auto)]
+
 ghost use Rattle.std.specs.Prelude.{◌≡◌, ◌+◌, ◌≤◌, length};
 ghost use Rattle.codes.specs.Codes.{if_ok};
 ghost use Rattle.manifest_extent.specs.Kept.{kept_for};
