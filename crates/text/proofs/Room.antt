@@ -2,7 +2,7 @@
 use Prim.Native.Nat.{ℕ, zero, suc, ◌+◌, ◌-◌, ◌*◌, ◌/◌, ◌≤◌, ◌<◌, min}
 use mathlib.Core.Path.{◌≡◌, refl}
 use mathlib.Core.Bool.{Bool, true, false, cond, false≢true}
-use mathlib.Core.Logic.{◌⊎◌, ⊎_elim}
+use mathlib.Core.Logic.{⊎_elim}
 use mathlib.Core.List.{List, []}
 use native.Mathlib.Nat.{mul-suc, mul-le-mul_left}
 use native.Mathlib.Omega.{arith}
@@ -19,7 +19,7 @@ use Rattle.versions.specs.Edition.{section_count, core, edition_ok}
 use Rattle.entries.specs.Entry.{words_per_entry, size, shown_words}
 use Rattle.sections.specs.Page.{place_ok, version_at, count_at, pointer_at, in_page, array_at, page_section, page_section_at, page_platform, found_at}
 use Rattle.sections.specs.Page.{platform_at}
-use Rattle.sections.specs.Section.{nothing, words_in, rules_at}
+use Rattle.sections.specs.Section.{words_in, rules_at}
 use Rattle.sections.proofs.Sections.{placed, rules-at}
 use Rattle.sections.proofs.Spans.{added_up}
 use Rattle.sections.proofs.Room.{array_lies, span_length, arrays-fit}

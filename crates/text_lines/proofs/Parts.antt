@@ -2,15 +2,12 @@
 use Prim.Native.Nat.{ℕ, zero, suc, ◌+◌, ◌-◌, ◌≤◌, ◌<◌}
 use mathlib.Core.Path.{◌≡◌, refl, sym, ap, ◌∙◌}
 use mathlib.Core.Bool.{Bool, true, false, cond, false≢true}
-use mathlib.Core.Logic.{⊎_elim}
-use mathlib.Core.List.{List, [], ◌∷◌, ◌++◌}
+use mathlib.Core.List.{List, [], ◌++◌}
 use native.Mathlib.Decide.{dec_lt}
 use native.Mathlib.Omega.{arith}
 use lib.ListN.{length, take, drop, length-drop}
 use lib.Seq.{take_all, length-take-le}
 use lib.Dec.{leb}
-use types.Run.{OneOf}
-use denote.Enum.Declared.{tag_of}
 use borrow.Author.Tests.{eq-eqb, ne_eqb}
 use Rattle.words.specs.Tests.{both}
 use Rattle.words.specs.Word.{word_at, joined}
@@ -19,7 +16,6 @@ use Rattle.reader.specs.Answer.{refused, read_of, empty, full, entry_word, field
 use Rattle.reader.specs.Reading.{refusal_number, section_of, shown_as, reading_answer, reading_of}
 use Rattle.reader.specs.declared.Section.{Section}
 use Rattle.reader.specs.declared.Section.TheVariants.{Absent, Empty, Entries}
-use Rattle.reader.specs.contracts.Section.{the_type}
 use Rattle.reader.specs.declared.View.{View}
 use Rattle.reader.specs.declared.Refusal.{Refusal}
 use Rattle.reader.specs.declared.Refusal.TheVariants.{Place}
@@ -112,10 +108,10 @@ unfolding state_text
 count-shown k true ws bs = refl
 count-shown k false ws bs = refl
 
-pub count-other : (w k : ℕ) (s : Section) (page : List ℕ) → OneOf (1 ∷ 2 ∷ []) (tag_of the_type s) →
+pub count-other : (w k : ℕ) (s : Section) (page : List ℕ) → (s ≡ Absent → ⊥) →
     count_text k (shown_as w k s page) ≡ state_text k (shown_as w k s page)
 unfolding state_text shown_as
-count-other w k Absent page h = absurd (⊎_elim (λ e. omega arith) (λ e. omega arith) h)
+count-other w k Absent page h = absurd (h refl)
 count-other w k Empty page h = refl
 count-other w k (Entries at n) page h = count-shown k (leb (at + size k n) (length page)) _ _
 

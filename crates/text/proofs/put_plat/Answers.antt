@@ -1,0 +1,10 @@
+use Rattle.text_lines.specs.Text.{plat_text, platform_text}
+use Rattle.text_lines.proofs.Lay.{wrote_then}
+use borrow.Author.Rules.{rules}
+use Rattle.text.proofs.put_plat.Goals as goal
+
+pub returns : goal.returns
+unfolding plat_text platform_text
+returns c =
+    wrote_then (search rules) (wrote_then (search rules) c.put-to.ensures
+    c.put_pointer-to.ensures) c.put_end.ensures

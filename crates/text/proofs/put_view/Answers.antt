@@ -1,0 +1,17 @@
+use mathlib.Core.Path.{ap}
+use Rattle.text_lines.specs.Text.{fields_text}
+use Rattle.text_lines.proofs.Lay.{wrote_then, wrote-same}
+use Rattle.text_lines.proofs.Parts.{seen-listed}
+use borrow.Author.Rules.{rules}
+use Rattle.text.proofs.put_view.Goals as goal
+
+pub returns : goal.returns
+returns c =
+    let a = c.args in
+    wrote-same (seen-listed a.view a.page.now)
+    (wrote_then (search rules)
+    (wrote_then (search rules)
+    (wrote_then (search rules) c.put_head-to.ensures
+    c.put_plat-to.ensures)
+    (wrote-same (ap fields_text c.fields_start-start.ensures.page_value) c.put_fields-to.ensures))
+    c.put_sections.ensures)

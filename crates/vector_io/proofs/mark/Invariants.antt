@@ -1,0 +1,13 @@
+use Prim.Native.Nat.{◌-◌, ◌%◌, ◌<◌, ◌≤◌}
+use mathlib.Core.Path.{◌≡◌}
+use lib.ListN.{length, drop}
+use Rattle.vector_io.specs.Cases.{digits}
+use Rattle.vector_io.proofs.mark.Given as goal
+
+abbrev pub invariant-loop-i : goal.invariant-loop-i
+invariant-loop-i l = (l.i ≤ length l.part) × (l.high < 0xffff_fffb) × (l.low < 0xffff_fffb)
+    × (digits 0x9_e37_79_b1 (length l.part % 0xffff_fffb) l.part ≡ digits 0x9_e37_79_b1 l.high (drop l.i l.part))
+    × (digits 0x85_eb_ca77 (length l.part % 0xffff_fffb) l.part ≡ digits 0x85_eb_ca77 l.low (drop l.i l.part))
+
+abbrev pub decreases-loop-i : goal.decreases-loop-i
+decreases-loop-i l = length l.part - l.i
