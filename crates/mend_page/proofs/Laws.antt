@@ -1,16 +1,16 @@
 -- Lines one after another, and the page of an input. Assumes nothing.
-use Prim.Native.Nat.{ℕ, ◌+◌, ◌-◌, ◌≤◌, ◌<◌}
+use Prim.Native.Nat.{ℕ, ◌+◌, ◌≤◌, ◌<◌}
 use mathlib.Core.Bool.{Bool, true, false}
-use mathlib.Core.Path.{◌≡◌, refl, sym, ap, ◌∙◌}
-use mathlib.Core.List.{List, [], ◌∷◌, ◌++◌}
+use mathlib.Core.Path.{◌≡◌, sym, ap, ◌∙◌}
+use mathlib.Core.List.{List, ◌++◌}
 use native.Mathlib.Nat.{zero-add}
 use native.Mathlib.Omega.{arith}
-use lib.ListN.{length, take, drop, get_or, length-append, length-take, length-drop}
+use lib.ListN.{length, take, drop, length-append, length-take, length-drop}
 use lib.Seq.{length-take-le, take_all, take_at, drop_at, ext_get_or, get_or-take, get_or-drop}
 use lib.Dec.{lit≤}
 use borrow.Author.Tests.{eq-eqb, ne_eqb}
 use Rattle.io.specs.Counts.{IsPrefixLen}
-use Rattle.words.specs.Word.{part, num_at, word_at, splice}
+use Rattle.words.specs.Word.{part, word_at, splice}
 use Rattle.words.proofs.Read.{num-part}
 use Rattle.words.proofs.Store.{splice-splice}
 use Rattle.reader.specs.declared.Refusal.TheVariants.{Place}

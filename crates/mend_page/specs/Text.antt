@@ -1,6 +1,6 @@
 -- What the program (MD8) reports, as ASCII numbers, and what it mends for an input. Assumes nothing.
-use Rattle.std.specs.Prelude.{ℕ, ◌≤◌, Bool, cond, ◌≡◌, List, [], ◌∷◌, ◌++◌, length, take, eqb}
-use Rattle.words.specs.Word.{part, word_at, splice}
+use Rattle.std.specs.Prelude.{ℕ, Bool, cond, ◌≡◌, List, [], ◌∷◌, ◌++◌, length, take, eqb}
+use Rattle.words.specs.Word.{part, word_at}
 use Rattle.reader.specs.declared.Refusal.{Refusal}
 use Rattle.reader.specs.declared.Refusal.TheVariants.{Place, Version, Rules}
 use Rattle.mend.specs.Mend.{mended_of, mended_page}

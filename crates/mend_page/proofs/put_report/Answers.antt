@@ -1,0 +1,17 @@
+use mathlib.Core.Path.{sym, ap}
+use Rattle.mend_page.specs.Text.{report_text}
+use Rattle.mend_page.proofs.Laws.{report-put}
+use borrow.Author.Rules.{rules}
+use Rattle.mend_page.proofs.put_report.Goals as goal
+
+pub returns-in-Done : goal.returns-in-Done
+unfolding report_text
+returns-in-Done c =
+    let told = report-put _ _ c.args.out.now (sym (ap report_text c.in-Done.is))
+    c.put_changes.ensures (search rules) in record { prefix_len = told.0; value = told.1 }
+
+pub returns-in-Refused : goal.returns-in-Refused
+unfolding report_text
+returns-in-Refused c =
+    let told = report-put _ _ c.args.out.now (sym (ap report_text c.in-Refused.is))
+    c.put_refused.ensures (search rules) in record { prefix_len = told.0; value = told.1 }
