@@ -1,0 +1,45 @@
+use mathlib.Core.Path.{sym, ap, ◌∙◌}
+use lib.ListN.{length}
+use lib.Seq.{take-length}
+use Rattle.pack.specs.Pack.{packed_by}
+use Rattle.pack_page.specs.Prints.{output_of}
+use Rattle.pack_page.proofs.Inputs.{input-short, input-packed}
+use borrow.Author.Rules.{rules}
+use Rattle.pack_page.proofs.pack_input.Goals as goal
+
+pub returns-then-input-ne4104 : goal.returns-then-input-ne4104
+returns-then-input-ne4104 c = (
+  c.put_code.ensures.0,
+  c.put_code.ensures.1 ∙
+      input-short c.args.input.now
+      c.if-input-ne4104.true,
+)
+
+pub returns-in-Page : goal.returns-in-Page
+unfolding packed_by output_of
+returns-in-Page c = (
+  search rules,
+  take-length _ ∙ input-packed c.args.input.now _
+      (length c.args.out.now) _ (search rules)
+      c.word_at.ensures c.requires
+      (ap (packed_by _) (sym c.in-Page.is) ∙ c.pack.ensures.result_after),
+)
+
+pub returns-in-Refused : goal.returns-in-Refused
+unfolding packed_by output_of
+returns-in-Refused c = (
+  c.put_code-in-Refused.ensures.0,
+  c.put_code-in-Refused.ensures.1 ∙
+      input-packed c.args.input.now _ (length c.args.out.now) _ (search rules)
+      c.word_at.ensures c.requires
+      (ap (packed_by _) (sym c.in-Refused.is) ∙ c.pack.ensures.result_after),
+)
+
+pub returns-in-Target : goal.returns-in-Target
+unfolding packed_by output_of
+returns-in-Target c = (
+  search rules,
+  input-packed c.args.input.now _ (length c.args.out.now) _
+      (search rules) c.word_at.ensures c.requires
+      (ap (packed_by _) (sym c.in-Target.is) ∙ c.pack.ensures.result_after),
+)
