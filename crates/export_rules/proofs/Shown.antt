@@ -10,8 +10,8 @@ use Rattle.words.specs.Word.{splice}
 use Rattle.words.proofs.Store.{splice-splice, bytes-in, laid-all}
 use Rattle.versions.specs.Edition.{section_count}
 use Rattle.sections.specs.Page.{count_at, pointer_at}
-use Rattle.reader.specs.Answer.{code_in, read_of, word_in}
-use Rattle.reader.specs.Reading.{section_at, view_at, reading_of, reading_answer}
+use Rattle.reader.specs.Answer.{code_in, read_of}
+use Rattle.reader.specs.Reading.{section_at, view_at, reading_of}
 use Rattle.reader.specs.declared.View.{View}
 use Rattle.reader.specs.declared.Reading.TheVariants.{Accepted}
 use Rattle.reader.proofs.Whole.{section-entries}
