@@ -1,0 +1,7 @@
+use lib.Seq.{length-take-le}
+use mathlib.Core.Path.{sym}
+use borrow.Author.Rules.{rules}
+use Rattle.page_vectors.proofs.print_case.Goals as goal
+
+pub slice_bounds-print_packed-end-2 : goal.slice_bounds-print_packed-end-2
+slice_bounds-print_packed-end-2 c = sym (length-take-le _ _ (search rules))

@@ -1,0 +1,10 @@
+use borrow.Author.Rules.{rules}
+use Rattle.potterbeam.proofs.pbeam_challenge.Goals as goal
+
+pub returns : goal.returns
+returns c =
+    rw (← c.record_of-record.ensures) (
+      rw (← c.challenge_code.ensures.value) c.x0.ensures,
+      rw (← c.challenge_place.ensures.value)
+          c.span_words.ensures,
+    )

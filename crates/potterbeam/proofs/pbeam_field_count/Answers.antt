@@ -1,0 +1,14 @@
+use mathlib.Core.Path.{ap, ◌∙◌}
+use lib.ListN.{length}
+use Rattle.reader.specs.Answer.{fields_shown}
+use Rattle.reader.specs.Reading.{reading_answer}
+use Rattle.reader.specs.declared.View.{View}
+use Rattle.reader.specs.declared.Reading.TheVariants.{Accepted}
+use borrow.Author.Rules.{rules}
+use Rattle.potterbeam.proofs.pbeam_field_count.Goals as goal
+
+pub returns : goal.returns
+returns c =
+    let a = c.args in
+    c.field_count.ensures ∙ ap (λ (v : View). length (fields_shown (reading_answer a.page.now (Accepted v))))
+    c.view_of.ensures

@@ -1,0 +1,16 @@
+use mathlib.Core.Path.{ap, ◌∙◌}
+use Rattle.reader.specs.Answer.{fields_shown}
+use Rattle.reader.specs.Reading.{reading_answer}
+use Rattle.reader.specs.declared.View.{View}
+use Rattle.reader.specs.declared.Reading.TheVariants.{Accepted}
+use Rattle.field_lookup.specs.Steps.{start_at}
+use borrow.Author.Rules.{rules}
+use Rattle.potterbeam.proofs.pbeam_field_start.Goals as goal
+
+pub returns : goal.returns
+returns c =
+    let a = c.args in
+    let e = c.view_of.ensures in (
+      c.fields_start.ensures.value ∙ ap (λ (v : View). start_at v.plat a.page.now) e,
+      c.fields_start.ensures.page_value ∙ ap (λ (v : View). fields_shown (reading_answer a.page.now (Accepted v))) e,
+    )

@@ -1,0 +1,13 @@
+use mathlib.Core.Path.{◌≡◌, sym, ap, ◌∙◌}
+use Rattle.attest.specs.Key.{Keyed}
+use Rattle.images.specs.Image.{register_words}
+use borrow.Author.Rules.{rules}
+use Rattle.potterbeam.proofs.pbeam_realm_key.Goals as goal
+
+pub returns : goal.returns
+returns c =
+    rw (← c.record_of.ensures) (
+      c.registers.ensures ∙ ap (λ (k : Keyed). register_words k.answer) c.realm_key.ensures,
+      ap
+          (λ (k : Keyed). k.page) c.realm_key.ensures,
+    )
