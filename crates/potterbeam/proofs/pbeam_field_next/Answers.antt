@@ -7,10 +7,4 @@ use Rattle.potterbeam.proofs.pbeam_field_next.Goals as goal
 
 pub returns : goal.returns
 returns c =
-    let a = c.args in (
-      ap (λ (s : FieldStep). s.next) c.field_next-step.ensures.value,
-      (
-        c.field_words.ensures ∙ ap (λ (s : FieldStep). field_words s.field) c.field_next-step.ensures.value,
-        ((step-shown a.cursor a.page.now).0, c.field_next-step.ensures.page_value_2),
-      ),
-    )
+    let a = c.args in record { value = ap (λ (s : FieldStep). s.next) c.field_next-step.ensures.value; field_after = c.field_words.ensures ∙ ap (λ (s : FieldStep). field_words s.field) c.field_next-step.ensures.value; page_value = ((step-shown a.cursor a.page.now).0, c.field_next-step.ensures.page_value_2) }

@@ -10,7 +10,4 @@ use Rattle.potterbeam.proofs.pbeam_field_start.Goals as goal
 pub returns : goal.returns
 returns c =
     let a = c.args in
-    let e = c.view_of.ensures in (
-      c.fields_start.ensures.value ∙ ap (λ (v : View). start_at v.plat a.page.now) e,
-      c.fields_start.ensures.page_value ∙ ap (λ (v : View). fields_shown (reading_answer a.page.now (Accepted v))) e,
-    )
+    let e = c.view_of.ensures in record { value = c.fields_start.ensures.value ∙ ap (λ (v : View). start_at v.plat a.page.now) e; page_value = c.fields_start.ensures.page_value ∙ ap (λ (v : View). fields_shown (reading_answer a.page.now (Accepted v))) e }

@@ -42,4 +42,4 @@ returns-in-Refused c =
     (sym c.in-Refused.is ∙ c.judge.ensures.value) in
     let g = refused-answer a.edition a.base a.page.now _ h in
     let q : to_z w32 (of_z w32 c.number.result) ≡ c.number.result = search rules in
-    (q ∙ c.number.ensures ∙ g.0, g.1)
+    record { value = q ∙ c.number.ensures ∙ g.0; view_after = g.1 }

@@ -6,8 +6,5 @@ use Rattle.potterbeam.proofs.pbeam_realm_key.Goals as goal
 
 pub returns : goal.returns
 returns c =
-    rw (← c.record_of.ensures) (
-      c.registers.ensures ∙ ap (λ (k : Keyed). register_words k.answer) c.realm_key.ensures,
-      ap
-          (λ (k : Keyed). k.page) c.realm_key.ensures,
-    )
+    rw (← c.record_of.ensures) record { out_after = c.registers.ensures ∙ ap (λ (k : Keyed). register_words k.answer) c.realm_key.ensures; page_after = ap
+          (λ (k : Keyed). k.page) c.realm_key.ensures }

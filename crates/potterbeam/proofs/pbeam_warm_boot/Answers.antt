@@ -8,8 +8,5 @@ use Rattle.potterbeam.proofs.pbeam_warm_boot.Goals as goal
 pub returns : goal.returns
 returns c =
     let q : to_z w32 (of_z w32 c.number.result) ≡ c.number.result = search rules in
-    rw (← c.record_of.ensures) (
-      q ∙ c.number.ensures ∙ c.warm-booted.ensures.0,
-      c.record_words.ensures ∙ ap record_words
-          c.warm-booted.ensures.1,
-    )
+    rw (← c.record_of.ensures) record { value = q ∙ c.number.ensures ∙ c.warm-booted.ensures.0; image_after = c.record_words.ensures ∙ ap record_words
+          c.warm-booted.ensures.1 }
