@@ -1,6 +1,5 @@
 use mathlib.Core.Path.{ap, ◌∙◌}
 use Rattle.images.specs.Image.{span_words}
-use borrow.Author.Rules.{rules}
 use Rattle.potterbeam.proofs.pbeam_array.Goals as goal
 
 pub returns : goal.returns

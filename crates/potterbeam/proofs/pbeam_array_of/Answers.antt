@@ -2,7 +2,6 @@ use mathlib.Core.Path.{ap, ◌∙◌}
 use lib.ListN.{length}
 use Rattle.lookup.specs.Lookup.{span_of}
 use Rattle.images.specs.Image.{span_words}
-use borrow.Author.Rules.{rules}
 use Rattle.potterbeam.proofs.pbeam_array_of.Goals as goal
 
 pub returns : goal.returns

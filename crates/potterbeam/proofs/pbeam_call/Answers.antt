@@ -1,6 +1,5 @@
 use Rattle.export_rules.proofs.Left.{left-forward, left-delegate, left-undelegate, left_key, left-token, left-features, left-signing}
 use Rattle.export_rules.proofs.Left.{left-update, left-unlisted}
-use borrow.Author.Rules.{rules}
 use Rattle.potterbeam.proofs.pbeam_call.Goals as goal
 
 pub returns-in-ForwardError : goal.returns-in-ForwardError

@@ -1,5 +1,4 @@
 use mathlib.Core.Path.{ap, ◌∙◌}
-use borrow.Author.Rules.{rules}
 use Rattle.images.specs.Image.{console_number}
 use Rattle.lookup.specs.Consoles.{console_named}
 use Rattle.reader.specs.Reading.{reading_answer}

@@ -2,7 +2,6 @@ use mathlib.Core.Path.{ap, ◌∙◌}
 use Rattle.lookup.specs.Fast.{count_of}
 use Rattle.lookup.proofs.Lookups.{count-view}
 use Rattle.images.specs.Image.{view_of}
-use borrow.Author.Rules.{rules}
 use Rattle.potterbeam.proofs.pbeam_count.Goals as goal
 
 pub returns : goal.returns

@@ -1,7 +1,6 @@
 use mathlib.Core.Path.{◌∙◌}
 use Rattle.export_rules.specs.Exports.{move_list_in}
 use Rattle.export_rules.proofs.Left.{move-left}
-use borrow.Author.Rules.{rules}
 use Rattle.potterbeam.proofs.pbeam_delegate_list.Goals as goal
 
 pub returns : goal.returns

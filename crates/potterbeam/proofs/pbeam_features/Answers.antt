@@ -1,6 +1,5 @@
-use mathlib.Core.Path.{◌≡◌, sym, ap, ◌∙◌}
+use mathlib.Core.Path.{ap, ◌∙◌}
 use Rattle.images.specs.Image.{register_words}
-use borrow.Author.Rules.{rules}
 use Rattle.potterbeam.proofs.pbeam_features.Goals as goal
 
 pub returns : goal.returns

@@ -2,7 +2,6 @@ use mathlib.Core.Path.{ap, ◌∙◌}
 use Rattle.fields.specs.declared.FieldStep.{FieldStep}
 use Rattle.field_lookup.proofs.Fields.{step-shown}
 use Rattle.images.specs.Image.{field_words}
-use borrow.Author.Rules.{rules}
 use Rattle.potterbeam.proofs.pbeam_field_next.Goals as goal
 
 pub returns : goal.returns

@@ -4,7 +4,6 @@ use Rattle.reader.specs.Reading.{reading_answer}
 use Rattle.reader.specs.declared.View.{View}
 use Rattle.reader.specs.declared.Reading.TheVariants.{Accepted}
 use Rattle.field_lookup.specs.Steps.{start_at}
-use borrow.Author.Rules.{rules}
 use Rattle.potterbeam.proofs.pbeam_field_start.Goals as goal
 
 pub returns : goal.returns

@@ -1,5 +1,3 @@
-use mathlib.Core.Path.{◌≡◌, sym, ap, ◌∙◌}
-use borrow.Author.Rules.{rules}
 use Rattle.potterbeam.proofs.pbeam_forward.Goals as goal
 
 pub returns : goal.returns

@@ -1,4 +1,3 @@
-use borrow.Author.Rules.{rules}
 use Rattle.potterbeam.proofs.pbeam_kept_for.Goals as goal
 
 pub returns : goal.returns

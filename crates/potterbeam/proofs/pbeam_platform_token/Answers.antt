@@ -1,7 +1,6 @@
 use Rattle.images.specs.Image.{record_of, is_set, session_of}
 use Rattle.export_rules.specs.Exports.{token_in}
 use Rattle.export_rules.proofs.Left.{token-left, told-token}
-use borrow.Author.Rules.{rules}
 use Rattle.potterbeam.proofs.pbeam_platform_token.Goals as goal
 
 pub returns : goal.returns

@@ -1,6 +1,5 @@
 use mathlib.Core.Path.{ap, ◌∙◌}
 use Rattle.export_rules.specs.Exports.{build_left, build_in}
-use borrow.Author.Rules.{rules}
 use Rattle.potterbeam.proofs.pbeam_realm_build.Goals as goal
 
 pub returns : goal.returns

@@ -1,10 +1,12 @@
-use mathlib.Core.Path.{◌≡◌, sym, ap, ◌∙◌}
+use mathlib.Core.Path.{ap, ◌∙◌}
 use Rattle.attest.specs.Key.{Keyed}
 use Rattle.images.specs.Image.{register_words}
-use borrow.Author.Rules.{rules}
 use Rattle.potterbeam.proofs.pbeam_realm_key.Goals as goal
 
 pub returns : goal.returns
 returns c =
-    rw (← c.record_of.ensures) record { out_after = c.registers.ensures ∙ ap (λ (k : Keyed). register_words k.answer) c.realm_key.ensures; page_after = ap
-          (λ (k : Keyed). k.page) c.realm_key.ensures }
+    rw (← c.record_of.ensures) record {
+      out_after = c.registers.ensures ∙ ap (λ (k : Keyed). register_words k.answer) c.realm_key.ensures;
+      page_after = ap
+          (λ (k : Keyed). k.page) c.realm_key.ensures;
+    }

@@ -1,6 +1,5 @@
 use mathlib.Core.Path.{ap}
 use Rattle.export_rules.specs.Exports.{set_up_left, set_up_in}
-use borrow.Author.Rules.{rules}
 use Rattle.potterbeam.proofs.pbeam_set_up_granules.Goals as goal
 
 pub returns : goal.returns

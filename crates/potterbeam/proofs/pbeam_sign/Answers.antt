@@ -1,6 +1,5 @@
 use Rattle.export_rules.specs.Exports.{sign_in}
 use Rattle.export_rules.proofs.Left.{sign-left}
-use borrow.Author.Rules.{rules}
 use Rattle.potterbeam.proofs.pbeam_sign.Goals as goal
 
 pub returns : goal.returns

@@ -1,7 +1,6 @@
 use mathlib.Core.Path.{◌∙◌}
 use Rattle.export_rules.specs.Exports.{signing_in}
 use Rattle.export_rules.proofs.Left.{signing-left}
-use borrow.Author.Rules.{rules}
 use Rattle.potterbeam.proofs.pbeam_token_signing.Goals as goal
 
 pub returns : goal.returns

@@ -1,6 +1,5 @@
 use Rattle.lookup.proofs.Lookups.{told-view}
 use Rattle.images.specs.Image.{view_of}
-use borrow.Author.Rules.{rules}
 use Rattle.potterbeam.proofs.pbeam_word.Goals as goal
 
 pub returns : goal.returns

@@ -1,7 +1,6 @@
 use lib.ListN.{length-set}
 use native.Mathlib.Omega.{arith}
 use Rattle.queue_image.proofs.Rows.{put_three}
-use borrow.Author.Rules.{rules}
 use Rattle.potterbeam.proofs.put_three.Goals as goal
 
 pub bounds-view-at-2 : goal.bounds-view-at-2

@@ -6,7 +6,6 @@ use Rattle.sections.specs.Page.{count_at}
 use Rattle.reader.proofs.Whole.{section-absent, section-empty}
 use Rattle.images.specs.Image.{tag_word, place_word, count_word, section_words}
 use Rattle.export_rules.proofs.Shown.{told_entries}
-use borrow.Author.Rules.{rules}
 use Rattle.potterbeam.proofs.show_section.Goals as goal
 
 pub returns-then-sections-k : goal.returns-then-sections-k
