@@ -1,4 +1,4 @@
--- 0xc40001_b2: realm key (CM4). Assumes nothing.
+-- 0xC40001B2: realm key (CM4). Assumes nothing.
 use Rattle.std.specs.Prelude.{ℕ, List, length, ltb, eqb}
 use Rattle.words.specs.Tests.{either}
 use Rattle.words.specs.Word.{splice}

@@ -33,7 +33,7 @@ outside_code Invalid = Inval
 unfoldable pub range_code : Params → OutsideAs → ℕ → ℕ → Code
 range_code u out pa size = fails (outside u pa) (outside_code out) (fails (too_long u pa size) Inval Ok)
 
--- "while it is not up, every command but 0xc400018_f answers UNK before its own checks; 0xc40001_b2, B3 and B5 do so too on a lent page not
+-- "while it is not up, every command but 0xC400018F answers UNK before its own checks; 0xC40001B2, B3 and B5 do so too on a lent page not
 -- 4,096 bytes long (house rules)" (RT6, RT7). `first` is the code of what a command checks before its buffer: OK if it checks nothing.
 unfoldable pub page_code : (state : Record) (len : ℕ) (first : Code) (out : OutsideAs) (pa size : ℕ) → Code
 page_code r len first out pa size =

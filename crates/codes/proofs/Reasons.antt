@@ -97,11 +97,11 @@ then-none next = refl
 -- ---- what x0 holds. "OK 0, UNK -1, BAD_ADDR -2, BAD_PAS -3, INVAL -5, AGAIN -6"; "x0 holds the code sign-extended to 64 bits"
 pub record X0s (x1 x2 : ℕ) : Type 0 where
   pub ok : answer_of Ok x1 x2 ≡ record { code = Ok; x0 = 0; x1 = x1; x2 = x2 }
-  pub unk : answer_of Unk x1 x2 ≡ record { code = Unk; x0 = 0xffff_ffff_ffff_ffff; x1 = x1; x2 = x2 }
-  pub bad_addr : answer_of BadAddr x1 x2 ≡ record { code = BadAddr; x0 = 0xffff_ffff_ffff_fffe; x1 = x1; x2 = x2 }
-  pub bad_pas : answer_of BadPas x1 x2 ≡ record { code = BadPas; x0 = 0xffff_ffff_ffff_fffd; x1 = x1; x2 = x2 }
-  pub inval : answer_of Inval x1 x2 ≡ record { code = Inval; x0 = 0xffff_ffff_ffff_fffb; x1 = x1; x2 = x2 }
-  pub again : answer_of Again x1 x2 ≡ record { code = Again; x0 = 0xffff_ffff_ffff_fffa; x1 = x1; x2 = x2 }
+  pub unk : answer_of Unk x1 x2 ≡ record { code = Unk; x0 = 0xFFFF_FFFF_FFFF_FFFF; x1 = x1; x2 = x2 }
+  pub bad_addr : answer_of BadAddr x1 x2 ≡ record { code = BadAddr; x0 = 0xFFFF_FFFF_FFFF_FFFE; x1 = x1; x2 = x2 }
+  pub bad_pas : answer_of BadPas x1 x2 ≡ record { code = BadPas; x0 = 0xFFFF_FFFF_FFFF_FFFD; x1 = x1; x2 = x2 }
+  pub inval : answer_of Inval x1 x2 ≡ record { code = Inval; x0 = 0xFFFF_FFFF_FFFF_FFFB; x1 = x1; x2 = x2 }
+  pub again : answer_of Again x1 x2 ≡ record { code = Again; x0 = 0xFFFF_FFFF_FFFF_FFFA; x1 = x1; x2 = x2 }
 
 pub x0-numbers : (x1 x2 : ℕ) → X0s x1 x2
 unfolding answer_of x0_of extended

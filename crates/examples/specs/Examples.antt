@@ -54,18 +54,18 @@ read_with (shows w e q s) = w ∷ e ∷ []
 -- the examples
 pub record Examples : Type 0 where
   -- "1* Version 0x0000000A is later than 0x00000009." (VN2)
-  pub e1 : later 0xa 0x9 ≡ true
+  pub e1 : later 0xA 0x9 ≡ true
   -- It is also above every known minor: a page of that version is read as edition 4, and the agreed minor is 5.
-  pub e1-read : read_with (read_of 4 0x80000000 (le_bytes 4 0xa ++ replicate 4092 0)) ≡ 10 ∷ 4 ∷ []
-  pub e1-agreed : agreed 0xa ≡ 5
+  pub e1-read : read_with (read_of 4 0x80000000 (le_bytes 4 0xA ++ replicate 4092 0)) ≡ 10 ∷ 4 ∷ []
+  pub e1-agreed : agreed 0xA ≡ 5
   -- "2* 0x80000005 refused." (VN3)
   pub e2 : version_ok 0x80000005 ≡ false
   -- "3* 0x00010000 refused." (VN3)
   pub e3 : version_ok 0x00010000 ≡ false
   -- "4* Count 1, pointer 0x80000028, bank 0x90000000 of 0x10000000 bytes: checksum 0xFFFFFFFEDFFFFFD7." (ML6) No other checksum is
   -- accepted.
-  pub e4 : (s : ℕ) → s < 2 ^ 64 → check_ok 1 0x80000028 bank s ≡ true → s ≡ 0xfffffffedfffffd7
-  pub e4-holds : check_ok 1 0x80000028 bank 0xfffffffedfffffd7 ≡ true
+  pub e4 : (s : ℕ) → s < 2 ^ 64 → check_ok 1 0x80000028 bank s ≡ true → s ≡ 0xFFFFFFFEDFFFFFD7
+  pub e4-holds : check_ok 1 0x80000028 bank 0xFFFFFFFEDFFFFFD7 ≡ true
   -- "5* Edition 4: 249 banks fit, 250 do not." 250 banks are refused with W5.
   pub e5 : (is_page (making 4 (banks 249) []) ≡ true) × (making 4 (banks 250) [] ≡ no-page 5)
   -- "6* Edition 4: 83 consoles fit, 84 do not; edition 3 holds 84." (ML2, W5)
@@ -77,7 +77,7 @@ pub record Examples : Type 0 where
   -- "8* pa = B + 4,096, size 0 is outside." (RT8) For any K.
   pub e8 : (u : Params) → outside u (u.base + 4096) ≡ true
   -- "9* Code -2 in x0 is 0xFFFFFFFFFFFFFFFE." (RT2)
-  pub e9 : x0_of BadAddr ≡ 0xfffffffffffffffe
+  pub e9 : x0_of BadAddr ≡ 0xFFFFFFFFFFFFFFFE
   -- "10* Delegating a Realm granule: BAD_PAS." (CM2.5), with ceil(granules / 64) realm words (CM2.1)
   pub e10 : (u : Params) (g : Granules) (t : GranuleTable) (addr i : ℕ) → fitting g t ≡ true →
       granule_at g (length t.bytes) addr ≡ At i → get_or t.bytes i 0 ≡ 1 →
@@ -85,7 +85,7 @@ pub record Examples : Type 0 where
   -- "11* m = 7: mecid 255 passes, 256 does not." (CM8.2)
   pub e11 : (u : Params) → (5 ≤ u.minor → update_code u 7 255 ≡ Ok) × (update_code u 7 256 ≡ Inval)
 
-check-one : (s : ℕ) → s < 2 ^ 64 → check_ok 1 0x80000028 bank s ≡ true → s ≡ 0xfffffffedfffffd7
+check-one : (s : ℕ) → s < 2 ^ 64 → check_ok 1 0x80000028 bank s ≡ true → s ≡ 0xFFFFFFFEDFFFFFD7
 unfolding check_ok sum
 check-one s h t = let e : (1 + 0x80000028 + (0x90000000 + (0x10000000 + 0)) + s) % 2 ^ 64 ≡ 0 = eqb-true _ _ t in omega arith
 

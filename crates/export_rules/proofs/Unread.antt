@@ -58,7 +58,7 @@ module _ (p q : List ℕ) (e : length p ≡ length q) where
       let s = signing-image-unread (record_of state) p q queue opcode pa size n key curve e in
       (ap register_words s.0, s.1)
 
-  call_same : (granules session queue table words : List ℕ) (c : Call) → (c.id ≡ 0xc40001_b5 → c.x1 ≡ 1 → ⊥) →
+  call_same : (granules session queue table words : List ℕ) (c : Call) → (c.id ≡ 0xC40001B5 → c.x1 ≡ 1 → ⊥) →
       SameCallLeft (call_in granules session queue p table words c) (call_in granules session queue q table words c)
   unfolding call_in
   call_same granules session queue table words c n =

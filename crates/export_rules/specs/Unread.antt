@@ -36,5 +36,5 @@ pub record ExportsUnread (p q : List ℕ) : Type 0 where
   pub signing : (state queue key : List ℕ) (opcode pa size curve : ℕ) → (opcode ≡ 1 → ⊥) →
       SameSigningLeft (signing_in state queue p key opcode pa size curve) (signing_in state queue q key opcode pa size curve)
   -- pbeam_call with any command except a push
-  pub call : (granules session queue table words : List ℕ) (c : Call) → (c.id ≡ 0xc40001_b5 → c.x1 ≡ 1 → ⊥) →
+  pub call : (granules session queue table words : List ℕ) (c : Call) → (c.id ≡ 0xC40001B5 → c.x1 ≡ 1 → ⊥) →
       SameCallLeft (call_in granules session queue p table words c) (call_in granules session queue q table words c)

@@ -79,8 +79,8 @@ module _ (granules : List ℕ) (m : Lent) where
   told : (e : Exported) → changes_of granules (lent_world m) (command_of e) ≡ changes_told (export_left granules m e).out e
   unfolding changes_told export_left changes_of command_of call_lent call_in call_left step_of call_of kind_of call_by after_move reply_code
       reply_registers register_words move_in move_list_in move_left
-  told (pbeam-delegate state address) = told-by Delegate (call_lent state (0xc40001_b0 ∷ address ∷ []) 0 [] [] [] 0)
-  told (pbeam-undelegate state address) = told-by Undelegate (call_lent state (0xc40001_b1 ∷ address ∷ []) 0 [] [] [] 0)
+  told (pbeam-delegate state address) = told-by Delegate (call_lent state (0xC40001B0 ∷ address ∷ []) 0 [] [] [] 0)
+  told (pbeam-undelegate state address) = told-by Undelegate (call_lent state (0xC40001B1 ∷ address ∷ []) 0 [] [] [] 0)
   told (pbeam-delegate-list state addresses) =
       ap (λ n. map (change Direction.Delegate) (take n addresses))
       (sym (list-number (record_of state) granules Direction.Delegate (table_of m.table m.words) addresses))

@@ -51,19 +51,19 @@ module _ (granules : List ℕ) (m : Lent) where
   -- each export equals the command with its id
   pub single : (e : Exported) → export_left granules m e ≡ command_left granules m (command_of e)
   unfolding export_left command_left command_of export_for kind_of move_list_in
-  single (pbeam-delegate state address) = sym (dispatched-by Delegate state (0xc40001_b0 ∷ address ∷ []) 0 [] [] [] 0 refl)
-  single (pbeam-undelegate state address) = sym (dispatched-by Undelegate state (0xc40001_b1 ∷ address ∷ []) 0 [] [] [] 0 refl)
+  single (pbeam-delegate state address) = sym (dispatched-by Delegate state (0xC40001B0 ∷ address ∷ []) 0 [] [] [] 0 refl)
+  single (pbeam-undelegate state address) = sym (dispatched-by Undelegate state (0xC40001B1 ∷ address ∷ []) 0 [] [] [] 0 refl)
   single (pbeam-delegate-list state addresses) = refl
   single (pbeam-undelegate-list state addresses) = refl
   single (pbeam-realm-key state key pa size curve) =
-      sym (dispatched-by RealmKey state (0xc40001_b2 ∷ pa ∷ size ∷ curve ∷ []) 0 key [] [] 0 refl)
+      sym (dispatched-by RealmKey state (0xC40001B2 ∷ pa ∷ size ∷ curve ∷ []) 0 key [] [] 0 refl)
   single (pbeam-platform-token state token busy pa size csize) =
-      sym (dispatched-by PlatformToken state (0xc40001_b3 ∷ pa ∷ size ∷ csize ∷ []) busy [] token [] 0 refl)
-  single (pbeam-features state index) = sym (dispatched-by Features state (0xc40001_b4 ∷ index ∷ []) 0 [] [] [] 0 refl)
+      sym (dispatched-by PlatformToken state (0xC40001B3 ∷ pa ∷ size ∷ csize ∷ []) busy [] token [] 0 refl)
+  single (pbeam-features state index) = sym (dispatched-by Features state (0xC40001B4 ∷ index ∷ []) 0 [] [] [] 0 refl)
   single (pbeam-token-signing state key opcode pa size curve) =
-      sym (dispatched-by TokenSigning state (0xc40001_b5 ∷ opcode ∷ pa ∷ size ∷ curve ∷ []) 0 [] [] key 0 refl)
-  single (pbeam-key-update state width mecid) = sym (dispatched-by KeyUpdate state (0xc40001_b6 ∷ mecid ∷ []) 0 [] [] [] width refl)
-  single (pbeam-forward state x1) = sym (dispatched-by ForwardError state (0xc400018_f ∷ x1 ∷ []) 0 [] [] [] 0 refl)
+      sym (dispatched-by TokenSigning state (0xC40001B5 ∷ opcode ∷ pa ∷ size ∷ curve ∷ []) 0 [] [] key 0 refl)
+  single (pbeam-key-update state width mecid) = sym (dispatched-by KeyUpdate state (0xC40001B6 ∷ mecid ∷ []) 0 [] [] [] width refl)
+  single (pbeam-forward state x1) = sym (dispatched-by ForwardError state (0xC400018F ∷ x1 ∷ []) 0 [] [] [] 0 refl)
   single (pbeam-call state x busy key token public width) = refl
   single (pbeam-sign signature) = refl
 

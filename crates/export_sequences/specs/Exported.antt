@@ -83,16 +83,16 @@ call_for state x busy key token public width = call (call_lent state x busy key 
 
 -- the command of each export
 unfoldable pub command_of : Exported → Command
-command_of (pbeam-delegate state address) = call_for state (0xc40001_b0 ∷ address ∷ []) 0 [] [] [] 0
-command_of (pbeam-undelegate state address) = call_for state (0xc40001_b1 ∷ address ∷ []) 0 [] [] [] 0
+command_of (pbeam-delegate state address) = call_for state (0xC40001B0 ∷ address ∷ []) 0 [] [] [] 0
+command_of (pbeam-undelegate state address) = call_for state (0xC40001B1 ∷ address ∷ []) 0 [] [] [] 0
 command_of (pbeam-delegate-list state addresses) = list (record_of state) Direction.Delegate addresses
 command_of (pbeam-undelegate-list state addresses) = list (record_of state) Direction.Undelegate addresses
-command_of (pbeam-realm-key state key pa size curve) = call_for state (0xc40001_b2 ∷ pa ∷ size ∷ curve ∷ []) 0 key [] [] 0
-command_of (pbeam-platform-token state token busy pa size csize) = call_for state (0xc40001_b3 ∷ pa ∷ size ∷ csize ∷ []) busy [] token [] 0
-command_of (pbeam-features state index) = call_for state (0xc40001_b4 ∷ index ∷ []) 0 [] [] [] 0
-command_of (pbeam-token-signing state key opcode pa size curve) = call_for state (0xc40001_b5 ∷ opcode ∷ pa ∷ size ∷ curve ∷ []) 0 [] [] key 0
-command_of (pbeam-key-update state width mecid) = call_for state (0xc40001_b6 ∷ mecid ∷ []) 0 [] [] [] width
-command_of (pbeam-forward state x1) = call_for state (0xc400018_f ∷ x1 ∷ []) 0 [] [] [] 0
+command_of (pbeam-realm-key state key pa size curve) = call_for state (0xC40001B2 ∷ pa ∷ size ∷ curve ∷ []) 0 key [] [] 0
+command_of (pbeam-platform-token state token busy pa size csize) = call_for state (0xC40001B3 ∷ pa ∷ size ∷ csize ∷ []) busy [] token [] 0
+command_of (pbeam-features state index) = call_for state (0xC40001B4 ∷ index ∷ []) 0 [] [] [] 0
+command_of (pbeam-token-signing state key opcode pa size curve) = call_for state (0xC40001B5 ∷ opcode ∷ pa ∷ size ∷ curve ∷ []) 0 [] [] key 0
+command_of (pbeam-key-update state width mecid) = call_for state (0xC40001B6 ∷ mecid ∷ []) 0 [] [] [] width
+command_of (pbeam-forward state x1) = call_for state (0xC400018F ∷ x1 ∷ []) 0 [] [] [] 0
 command_of (pbeam-call state x busy key token public width) = call_for state x busy key token public width
 command_of (pbeam-sign signature) = sign signature
 

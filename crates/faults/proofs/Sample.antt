@@ -24,7 +24,7 @@ one_bank s check =
     ++ le_bytes 8 1 ++ le_bytes 8 0x80000028 ++ le_bytes 8 check
     ++ le_bytes 8 0x90000000 ++ le_bytes 8 s ++ replicate 4040 0
 
-pub sample : (fault_of 4 0x80000000 (one_bank 0x10000000 0x120000029) ≡ At (mk_fault rule.Checksum 0 0 32 0x120000029 0xfffffffedfffffd7))
+pub sample : (fault_of 4 0x80000000 (one_bank 0x10000000 0x120000029) ≡ At (mk_fault rule.Checksum 0 0 32 0x120000029 0xFFFFFFFEDFFFFFD7))
     × (fault_of 4 0x80000000 (one_bank 0x10000800 0x120000029) ≡ At (mk_fault rule.EntrySize 0 0 48 0x10000800 0))
 unfolding one_bank fault_of rules_fault plat_fault section_fault section_tests array_fault check_fault wanted_sum entry_of entry_fault bank_fault
     first_of first_fault unless mk_fault nothing in_range place_ok words_at entry_place check_ok sum size words_per_entry edition_ok core section_count

@@ -1,4 +1,4 @@
--- 0xc40001_b4 features (CM6), 0xc40001_b6 key update (CM8), 0xc400018_f forward an error (CM1). Assumes nothing.
+-- 0xC40001B4 features (CM6), 0xC40001B6 key update (CM8), 0xC400018F forward an error (CM1). Assumes nothing.
 use Rattle.std.specs.Prelude.{ℕ, ◌+◌, ◌-◌, ◌^◌, min, ltb, eqb}
 use Rattle.words.specs.Tests.{either}
 use Rattle.boot.specs.declared.Params.{Params}

@@ -1,4 +1,4 @@
--- 0xc40001_b0, B1: delegate, undelegate.
+-- 0xC40001B0, B1: delegate, undelegate.
 -- "The granule table is one byte a granule ..: 0 Non-secure, 1 Realm, 2 Root, 3 Secure; other bytes are none of these (house codes)."
 -- (BN2) The banks decide the granule of an address (BN7). Assumes nothing.
 use Rattle.std.specs.Prelude.{ℕ, ◌≡◌, Bool, false, List, length, get_or, set, eqb}

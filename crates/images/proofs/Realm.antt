@@ -27,7 +27,7 @@ use Rattle.images.specs.Image.{is_set}
 use Rattle.images.specs.Realm.{number_x0, number_words, hit_x0, hit_words, agreement_x0, built_x0}
 
 abbrev inval : ℕ
-inval = 0xffff_ffff_ffff_fffb
+inval = 0xFFFF_FFFF_FFFF_FFFB
 
 -- ---- the answer for a number and a word
 abbrev pub number_read : ℕ → List ℕ → Number

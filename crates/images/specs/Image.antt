@@ -146,9 +146,9 @@ field_words place.Nothing = 0 ∷ 0 ∷ 0 ∷ 0 ∷ []
 -- ---- the result of a console lookup by name: its index, or 2^64 - 1 if no console has the name
 unfoldable pub console_number : ConsoleFound → ℕ
 console_number (found.At i) = i
-console_number found.Nothing = 0xffff_ffff_ffff_ffff
+console_number found.Nothing = 0xFFFF_FFFF_FFFF_FFFF
 
--- ---- the dispatcher's reply: the result registers, which are zero for 0xc400018_f; and what the platform must do, where 2 means to forward
+-- ---- the dispatcher's reply: the result registers, which are zero for 0xC400018F; and what the platform must do, where 2 means to forward
 -- an error code to the Non-secure world
 unfoldable pub reply_registers : Reply → List ℕ
 reply_registers (Forward n) = 0 ∷ 0 ∷ 0 ∷ []

@@ -26,7 +26,7 @@ one_there check = le_bytes 8 1 ++ le_bytes 8 0x80000070 ++ le_bytes 8 check
 unfoldable pub three_on_one : List ℕ
 three_on_one =
     le_bytes 4 4 ++ replicate 12 0
-    ++ one_there 0 ++ replicate 24 0 ++ one_there 0xfffffffedfffff8_f ++ one_there 0xfffffffedfffff8_f
+    ++ one_there 0 ++ replicate 24 0 ++ one_there 0xFFFFFFFEDFFFFF8F ++ one_there 0xFFFFFFFEDFFFFF8F
     ++ le_bytes 8 0x90000000 ++ le_bytes 8 0x10000000 ++ replicate 3968 0
 
 pub second-kept : mended_of 0x80000000 three_on_one ≡ Done (record

@@ -21,13 +21,13 @@ use Rattle.reader.specs.Answer.{bytes_in, look_in, entry_word, word_in}
 
 -- base 0x90000000, one page, name pl011, 24 MHz, 115,200 baud, flags 1
 unfoldable pub flagged : List ℕ
-flagged = le_bytes 8 0x90000000 ++ le_bytes 8 1 ++ le_bytes 8 0x3131306_c70 ++ le_bytes 8 24000000 ++ le_bytes 8 115200 ++ le_bytes 8 1
+flagged = le_bytes 8 0x90000000 ++ le_bytes 8 1 ++ le_bytes 8 0x3131306C70 ++ le_bytes 8 24000000 ++ le_bytes 8 115200 ++ le_bytes 8 1
 
 -- a page of this minor for B = 0x80000000: no bank, and this console after the core of edition 4
 unfoldable pub flagged_page : ℕ → List ℕ
 flagged_page minor =
     le_bytes 4 minor ++ replicate 36 0
-    ++ le_bytes 8 1 ++ le_bytes 8 0x80000070 ++ le_bytes 8 0xffffffcdbd5_f9_b1_d
+    ++ le_bytes 8 1 ++ le_bytes 8 0x80000070 ++ le_bytes 8 0xFFFFFFCDBD5F9B1D
     ++ replicate 48 0
     ++ flagged ++ replicate 3936 0
 
@@ -37,8 +37,8 @@ first_console a = map (word_in a 1 0) (0 ∷ 1 ∷ 2 ∷ 3 ∷ 4 ∷ 5 ∷ [])
 
 pub flags-at-limit : (read_of 3 0x80000000 (flagged_page 4) ≡ refused (minus 7))
     × (read_of 4 0x80000000 (flagged_page 4) ≡ refused (minus 7))
-    × (first_console (read_of 3 0x80000000 (flagged_page 5)) ≡ 0x90000000 ∷ 1 ∷ 0x3131306_c70 ∷ 24000000 ∷ 115200 ∷ 0 ∷ [])
-    × (first_console (read_of 4 0x80000000 (flagged_page 5)) ≡ 0x90000000 ∷ 1 ∷ 0x3131306_c70 ∷ 24000000 ∷ 115200 ∷ 0 ∷ [])
+    × (first_console (read_of 3 0x80000000 (flagged_page 5)) ≡ 0x90000000 ∷ 1 ∷ 0x3131306C70 ∷ 24000000 ∷ 115200 ∷ 0 ∷ [])
+    × (first_console (read_of 4 0x80000000 (flagged_page 5)) ≡ 0x90000000 ∷ 1 ∷ 0x3131306C70 ∷ 24000000 ∷ 115200 ∷ 0 ∷ [])
     × (look_in (read_of 3 0x80000000 (flagged_page 5)) 1 ≡ flagged)
     × (look_in (read_of 4 0x80000000 (flagged_page 5)) 1 ≡ flagged)
 unfolding flagged flagged_page first_console word_in entry_word look_in bytes_in read_of judge reader_gate all_shown plat_shown shown shown_sec rules

@@ -24,7 +24,7 @@ bank = le_bytes 8 0x90000000 ++ le_bytes 8 0x10000000
 unfoldable pub page : List ℕ
 page =
     le_bytes 4 2 ++ le_bytes 4 0 ++ le_bytes 8 0
-    ++ le_bytes 8 1 ++ le_bytes 8 0x80000028 ++ le_bytes 8 0xfffffffedfffffd7
+    ++ le_bytes 8 1 ++ le_bytes 8 0x80000028 ++ le_bytes 8 0xFFFFFFFEDFFFFFD7
     ++ bank ++ replicate 4040 0
 
 pub sample : (count_in (read_of 4 0x80000000 page) 0 ≡ 1)

@@ -1,4 +1,4 @@
--- 0xc40001_b5, push: a request in a buffer (CM7). Assumes nothing.
+-- 0xC40001B5, push: a request in a buffer (CM7). Assumes nothing.
 use Rattle.std.specs.Prelude.{ℕ, List, [], ◌∷◌, ◌++◌, length, leb, ltb, eqb}
 use Rattle.words.specs.Word.{part, word_at, u32_at}
 use Rattle.codes.specs.Codes.{is_false, fails, answer_of}

@@ -1,4 +1,4 @@
--- 0xc40001_b5, pull: the oldest response into a buffer (CM7). Assumes nothing.
+-- 0xC40001B5, pull: the oldest response into a buffer (CM7). Assumes nothing.
 use Rattle.std.specs.Prelude.{ℕ, ◌+◌, List, ◌++◌, length, drop, ltb, eqb}
 use Rattle.words.specs.Word.{le_bytes, splice}
 use Rattle.codes.specs.Codes.{fails, answer_of}

@@ -16,23 +16,23 @@ module _ (g : Granules) (w : World) (c : Call) where
   unfolding call_by kind_of forward_of after_move after_key after_token after_signing after_update
   call-acts =
       record {
-        forwards = λ e. reached 0xc400018_f e;
-        delegates = λ e m d. rw d (reached 0xc40001_b0 e);
-        undelegates = λ e m d. rw d (reached 0xc40001_b1 e);
-        attests = λ e k d. rw d (reached 0xc40001_b2 e);
-        sends = λ e t d. rw d (reached 0xc40001_b3 e);
-        tells = λ e. reached 0xc40001_b4 e;
-        queues = λ e s d. rw d (reached 0xc40001_b5 e);
-        updates = λ e u d. rw d (reached 0xc40001_b6 e);
+        forwards = λ e. reached 0xC400018F e;
+        delegates = λ e m d. rw d (reached 0xC40001B0 e);
+        undelegates = λ e m d. rw d (reached 0xC40001B1 e);
+        attests = λ e k d. rw d (reached 0xC40001B2 e);
+        sends = λ e t d. rw d (reached 0xC40001B3 e);
+        tells = λ e. reached 0xC40001B4 e;
+        queues = λ e s d. rw d (reached 0xC40001B5 e);
+        updates = λ e u d. rw d (reached 0xC40001B6 e);
         others =
             λ a b d e f h i j. reached c.id refl ∙ rw (
-              ne_eqb c.id 0xc400018_f a,
-              ne_eqb c.id 0xc40001_b0 b,
-              ne_eqb c.id 0xc40001_b1 d,
-              ne_eqb c.id 0xc40001_b2 e,
-              ne_eqb c.id 0xc40001_b3 f,
-              ne_eqb c.id 0xc40001_b4 h,
-              ne_eqb c.id 0xc40001_b5 i,
-              ne_eqb c.id 0xc40001_b6 j,
+              ne_eqb c.id 0xC400018F a,
+              ne_eqb c.id 0xC40001B0 b,
+              ne_eqb c.id 0xC40001B1 d,
+              ne_eqb c.id 0xC40001B2 e,
+              ne_eqb c.id 0xC40001B3 f,
+              ne_eqb c.id 0xC40001B4 h,
+              ne_eqb c.id 0xC40001B5 i,
+              ne_eqb c.id 0xC40001B6 j,
             );
       }

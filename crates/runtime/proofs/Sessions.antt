@@ -13,7 +13,7 @@ use Rattle.runtime.specs.Step.{World, Call, Command, call, sign, list, kind_of, 
 use Rattle.runtime.specs.Step.{after_update, after_sign, call_by, call_of, step_of}
 use Rattle.runtime.specs.Run.{next_of, world_after, gathered, of_token, token_call, token_calls}
 
--- one call: only 0xc40001_b3 changes the session
+-- one call: only 0xC40001B3 changes the session
 one-session : (k : Kind) (g : Granules) (w : World) (c : Call) (ts : List TokenCall) →
     token_run (call_by k g w c).next.session ts ≡ token_run w.session (of_token k (token_call w c ∷ []) ++ ts)
 unfolding call_by after_move after_key after_token after_signing after_update token_call token_run token_step

@@ -27,7 +27,7 @@ pub record SameStep (x y : Step) : Type 0 where
   pub session : x.next.session ≡ y.next.session
   pub queue : x.next.queue ≡ y.next.queue
 
--- ---- only 0xc40001_b5 is token signing
+-- ---- only 0xC40001B5 is token signing
 abbrev is_signing : Kind → Bool
 is_signing ForwardError = false
 is_signing Delegate = false
@@ -43,20 +43,20 @@ other : (b : Bool) (x y : Kind) → is_signing x ≡ false → is_signing (cond 
 other true x y n h = absurd (true≢false (sym h ∙ n))
 other false x y n h = h
 
-pub signing-id : (id : ℕ) → kind_of id ≡ TokenSigning → id ≡ 0xc40001_b5
+pub signing-id : (id : ℕ) → kind_of id ≡ TokenSigning → id ≡ 0xC40001B5
 unfolding kind_of
 signing-id id h =
-    let h1 = other (eqb id 0xc400018_f) ForwardError _ refl (ap is_signing h) in
-    let h2 = other (eqb id 0xc40001_b0) Delegate _ refl h1 in
-    let h3 = other (eqb id 0xc40001_b1) Undelegate _ refl h2 in
-    let h4 = other (eqb id 0xc40001_b2) RealmKey _ refl h3 in
-    let h5 = other (eqb id 0xc40001_b3) PlatformToken _ refl h4 in
-    let h6 = other (eqb id 0xc40001_b4) Features _ refl h5 in
-    go (eqb id 0xc40001_b5) refl h6
+    let h1 = other (eqb id 0xC400018F) ForwardError _ refl (ap is_signing h) in
+    let h2 = other (eqb id 0xC40001B0) Delegate _ refl h1 in
+    let h3 = other (eqb id 0xC40001B1) Undelegate _ refl h2 in
+    let h4 = other (eqb id 0xC40001B2) RealmKey _ refl h3 in
+    let h5 = other (eqb id 0xC40001B3) PlatformToken _ refl h4 in
+    let h6 = other (eqb id 0xC40001B4) Features _ refl h5 in
+    go (eqb id 0xC40001B5) refl h6
   where
-    go : (b : Bool) → eqb id 0xc40001_b5 ≡ b → is_signing (cond b TokenSigning (cond (eqb id 0xc40001_b6) KeyUpdate Unlisted)) ≡ true → id ≡ 0xc40001_b5
-    go true e k = eqb-true id 0xc40001_b5 e
-    go false e k = absurd (false≢true (other (eqb id 0xc40001_b6) KeyUpdate Unlisted refl k))
+    go : (b : Bool) → eqb id 0xC40001B5 ≡ b → is_signing (cond b TokenSigning (cond (eqb id 0xC40001B6) KeyUpdate Unlisted)) ≡ true → id ≡ 0xC40001B5
+    go true e k = eqb-true id 0xC40001B5 e
+    go false e k = absurd (false≢true (other (eqb id 0xC40001B6) KeyUpdate Unlisted refl k))
 
 module _ (g : Granules) (w : World) (c : Call) (p q : List ℕ) (e : length p ≡ length q) where
   by-unread : (k : Kind) → (k ≡ TokenSigning → c.x1 ≡ 1 → ⊥) → SameStep (call_by k g (with_page p w) c) (call_by k g (with_page q w) c)
@@ -81,6 +81,6 @@ module _ (g : Granules) (w : World) (c : Call) (p q : List ℕ) (e : length p �
   by-unread KeyUpdate n = record { reply = refl; table = refl; session = refl; queue = refl }
   by-unread Unlisted n = record { reply = refl; table = refl; session = refl; queue = refl }
 
-  pub call-unread : (c.id ≡ 0xc40001_b5 → c.x1 ≡ 1 → ⊥) → SameStep (call_of g (with_page p w) c) (call_of g (with_page q w) c)
+  pub call-unread : (c.id ≡ 0xC40001B5 → c.x1 ≡ 1 → ⊥) → SameStep (call_of g (with_page p w) c) (call_of g (with_page q w) c)
   unfolding call_of
   call-unread n = by-unread (kind_of c.id) (λ k. n (signing-id c.id k))

@@ -17,23 +17,23 @@ use Rattle.runtime.specs.declared.Reply.TheVariants.{Forward, Back}
 -- For each function id of docs/RULES.md, chapter 14, a call returns the answer of that command, with the registers in the order of
 -- docs/RULES.md, and changes only the part of the world that the command changes.
 pub record CallActed (g : Granules) (w : World) (c : Call) : Type 0 where
-  pub forwards : c.id ≡ 0xc400018_f → call_of g w c ≡ record { reply = Forward c.x1; next = w }
-  pub delegates : c.id ≡ 0xc40001_b0 → (m : Moved) → m ≡ delegate_of c.state g w.table c.x1 →
+  pub forwards : c.id ≡ 0xC400018F → call_of g w c ≡ record { reply = Forward c.x1; next = w }
+  pub delegates : c.id ≡ 0xC40001B0 → (m : Moved) → m ≡ delegate_of c.state g w.table c.x1 →
       call_of g w c ≡ record { reply = Back m.answer Nothing; next = with_table m.table w }
-  pub undelegates : c.id ≡ 0xc40001_b1 → (m : Moved) → m ≡ undelegate_of c.state g w.table c.x1 →
+  pub undelegates : c.id ≡ 0xC40001B1 → (m : Moved) → m ≡ undelegate_of c.state g w.table c.x1 →
       call_of g w c ≡ record { reply = Back m.answer Nothing; next = with_table m.table w }
-  pub attests : c.id ≡ 0xc40001_b2 → (k : Keyed) → k ≡ realm_key_of c.state w.page c.realm_key c.x1 c.x2 c.x3 →
+  pub attests : c.id ≡ 0xC40001B2 → (k : Keyed) → k ≡ realm_key_of c.state w.page c.realm_key c.x1 c.x2 c.x3 →
       call_of g w c ≡ record { reply = Back k.answer Nothing; next = with_page k.page w }
-  pub sends : c.id ≡ 0xc40001_b3 → (t : TokenStep) → t ≡ token_of c.state w.page w.session c.busy c.token c.x1 c.x2
+  pub sends : c.id ≡ 0xC40001B3 → (t : TokenStep) → t ≡ token_of c.state w.page w.session c.busy c.token c.x1 c.x2
       c.x3 →
       call_of g w c ≡ record { reply = Back t.answer Nothing; next = with_session t.session (with_page t.page w) }
-  pub tells : c.id ≡ 0xc40001_b4 → call_of g w c ≡ record { reply = Back (features_of c.state c.x1) Nothing; next = w }
-  pub queues : c.id ≡ 0xc40001_b5 → (s : SigningStep) → s ≡ signing_of c.state w.page w.queue c.public_key c.x1 c.x2
+  pub tells : c.id ≡ 0xC40001B4 → call_of g w c ≡ record { reply = Back (features_of c.state c.x1) Nothing; next = w }
+  pub queues : c.id ≡ 0xC40001B5 → (s : SigningStep) → s ≡ signing_of c.state w.page w.queue c.public_key c.x1 c.x2
       c.x3 c.x4 →
       call_of g w c ≡ record { reply = Back s.answer Nothing; next = with_queue s.queue (with_page s.page w) }
-  pub updates : c.id ≡ 0xc40001_b6 → (u : UpdateResult) → u ≡ update_of c.state c.width c.x1 →
+  pub updates : c.id ≡ 0xC40001B6 → (u : UpdateResult) → u ≡ update_of c.state c.width c.x1 →
       call_of g w c ≡ record { reply = Back u.answer u.work; next = w }
   -- "Any function id not listed below: UNK." (RT5)
-  pub others : (c.id ≡ 0xc400018_f → ⊥) → (c.id ≡ 0xc40001_b0 → ⊥) → (c.id ≡ 0xc40001_b1 → ⊥) → (c.id ≡ 0xc40001_b2 → ⊥) →
-      (c.id ≡ 0xc40001_b3 → ⊥) → (c.id ≡ 0xc40001_b4 → ⊥) → (c.id ≡ 0xc40001_b5 → ⊥) → (c.id ≡ 0xc40001_b6 → ⊥) →
+  pub others : (c.id ≡ 0xC400018F → ⊥) → (c.id ≡ 0xC40001B0 → ⊥) → (c.id ≡ 0xC40001B1 → ⊥) → (c.id ≡ 0xC40001B2 → ⊥) →
+      (c.id ≡ 0xC40001B3 → ⊥) → (c.id ≡ 0xC40001B4 → ⊥) → (c.id ≡ 0xC40001B5 → ⊥) → (c.id ≡ 0xC40001B6 → ⊥) →
       call_of g w c ≡ record { reply = Back (answer_of Unk 0 0) Nothing; next = w }

@@ -48,6 +48,6 @@ pub record IntoRealm (s : Record) (g : Granules) (w : World) (pa size : ℕ) : T
 
 -- each accepted command that writes to the page writes to Realm memory: realm key, hunk of the platform token, response or public key (SH4)
 pub record WritesIntoRealm (s : Record) (g : Granules) (w : World) (c : Call) : Type 0 where
-  pub key : c.id ≡ 0xc40001_b2 → accepted g w (call (call_under s c)) ≡ true → IntoRealm s g w c.x1 c.x2
-  pub hunk : c.id ≡ 0xc40001_b3 → accepted g w (call (call_under s c)) ≡ true → IntoRealm s g w c.x1 c.x2
-  pub response : c.id ≡ 0xc40001_b5 → accepted g w (call (call_under s c)) ≡ true → IntoRealm s g w c.x2 c.x3
+  pub key : c.id ≡ 0xC40001B2 → accepted g w (call (call_under s c)) ≡ true → IntoRealm s g w c.x1 c.x2
+  pub hunk : c.id ≡ 0xC40001B3 → accepted g w (call (call_under s c)) ≡ true → IntoRealm s g w c.x1 c.x2
+  pub response : c.id ≡ 0xC40001B5 → accepted g w (call (call_under s c)) ≡ true → IntoRealm s g w c.x2 c.x3

@@ -42,8 +42,8 @@ module _ (g : Granules) where
 -- ---- a list and its single calls
 -- the single call for address a; delegation does not use the other arguments
 unfoldable pub single_call : Record → Direction → ℕ → Command
-single_call r Direction.Delegate a = call (call_with r 0xc40001_b0 a 0 0 0 false [] [] [] 0)
-single_call r Direction.Undelegate a = call (call_with r 0xc40001_b1 a 0 0 0 false [] [] [] 0)
+single_call r Direction.Delegate a = call (call_with r 0xC40001B0 a 0 0 0 false [] [] [] 0)
+single_call r Direction.Undelegate a = call (call_with r 0xC40001B1 a 0 0 0 false [] [] [] 0)
 
 -- Request E1: "Demand 1 counts each granule of a list as a call of its own" (LG4): the single calls that a list has done, also if it is
 -- refused

@@ -100,14 +100,14 @@ pub record Step : Type 0 where
 -- "Any function id not listed below: UNK. The id is compared as 64 bits." (RT3, RT5)
 unfoldable pub kind_of : ℕ → Kind
 kind_of id =
-    cond (eqb id 0xc400018_f) ForwardError
-    (cond (eqb id 0xc40001_b0) Delegate
-    (cond (eqb id 0xc40001_b1) Undelegate
-    (cond (eqb id 0xc40001_b2) RealmKey
-    (cond (eqb id 0xc40001_b3) PlatformToken
-    (cond (eqb id 0xc40001_b4) Features
-    (cond (eqb id 0xc40001_b5) TokenSigning
-    (cond (eqb id 0xc40001_b6) KeyUpdate
+    cond (eqb id 0xC400018F) ForwardError
+    (cond (eqb id 0xC40001B0) Delegate
+    (cond (eqb id 0xC40001B1) Undelegate
+    (cond (eqb id 0xC40001B2) RealmKey
+    (cond (eqb id 0xC40001B3) PlatformToken
+    (cond (eqb id 0xC40001B4) Features
+    (cond (eqb id 0xC40001B5) TokenSigning
+    (cond (eqb id 0xC40001B6) KeyUpdate
     Unlisted)))))))
 
 -- ---- the step of each command: its answer, with the part of the world that it may change replaced
@@ -161,7 +161,7 @@ step_of g w (call c) = call_of g w c
 step_of g w (sign s) = after_sign (sign_of w.queue s) w
 step_of g w (list r d l) = after_move (move_list_of r g d w.table l) w
 
--- the code of a reply; 0xc400018_f has no result and is never refused, so it counts as OK
+-- the code of a reply; 0xC400018F has no result and is never refused, so it counts as OK
 unfoldable pub reply_code : Reply → Code
 reply_code (Forward n) = Ok
 reply_code (Back a work) = a.code

@@ -1,4 +1,4 @@
--- 0xc40001_b5 on the queue's image (CM7, CE4). Assumes nothing.
+-- 0xC40001B5 on the queue's image (CM7, CE4). Assumes nothing.
 use Rattle.std.specs.Prelude.{ℕ, List}
 use Rattle.words.specs.Word.{part}
 use Rattle.boot.specs.declared.Record.{Record}

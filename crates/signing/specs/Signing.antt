@@ -1,4 +1,4 @@
--- 0xc40001_b5: token signing (CM7). Assumes nothing.
+-- 0xC40001B5: token signing (CM7). Assumes nothing.
 use Rattle.std.specs.Prelude.{ℕ, Bool, true, false, cond, List, length, ltb, eqb}
 use Rattle.words.specs.Word.{part, splice}
 use Rattle.boot.specs.declared.Record.{Record}

@@ -30,7 +30,7 @@ refusal_line (Accepted v) = []
 -- ---- a part of the text, written from an offset on
 -- the largest offset; sums that overflow end there
 abbrev pub last_offset : ℕ
-last_offset = 0xffff_ffff_ffff_ffff
+last_offset = 0xFFFF_FFFF_FFFF_FFFF
 
 -- `vs` was written over `s` from offset `at` on, as far as it fits: the result is `t`, and the next text goes to offset `r`
 pub record LaidOver (at : ℕ) (vs s : List ℕ) (r : ℕ) (t : List ℕ) : Type 0 where

@@ -1,4 +1,4 @@
--- Calls of 0xc40001_b3, one after another. "With a fixed buffer of b bytes, b at least the start's c_size, one start and the same token
+-- Calls of 0xC40001B3, one after another. "With a fixed buffer of b bytes, b at least the start's c_size, one start and the same token
 -- lent throughout, a token of L bytes takes exactly L / b calls, rounded up, refusals not counted" (CM5.13). Assumes nothing.
 use Rattle.std.specs.Prelude.{ℕ, ◌+◌, ◌-◌, ◌*◌, ◌/◌, min, ◌≤◌, ◌<◌, ◌≡◌, Bool, true, cond, List, [], ◌∷◌, ◌++◌, length, take, drop}
 use Rattle.words.specs.Word.{part}

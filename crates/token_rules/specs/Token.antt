@@ -1,4 +1,4 @@
--- 0xc40001_b3: platform token, and the lookup of its challenge (CM5). Assumes nothing.
+-- 0xC40001B3: platform token, and the lookup of its challenge (CM5). Assumes nothing.
 use Rattle.std.specs.Prelude.{ℕ, ◌+◌, ◌-◌, min, Bool, true, false, cond, not, List, [], length, ltb, eqb, ℤ, pos}
 use Rattle.words.specs.Tests.{both, either}
 use Rattle.words.specs.Word.{part, splice, no_span, span_at}

@@ -50,7 +50,7 @@ read-not bytes list h = rw (lt-ltb 600 (length list) h)
 
 -- ---- digits
 pub digits_more : (base n i : ℕ) (s : List ℕ) → i < length s →
-    digits base n (drop i s) ≡ digits base ((n * base + get_or s i 0) % 0xffff_fffb) (drop (i + 1) s)
+    digits base n (drop i s) ≡ digits base ((n * base + get_or s i 0) % 0xFFFF_FFFB) (drop (i + 1) s)
 unfolding digits
 digits_more base n i s h = rw (drop-cons s i 0 h, add-one)
 

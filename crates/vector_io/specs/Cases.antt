@@ -55,9 +55,9 @@ fill_into at input list = read_into (spanned (record { at = words_from at input 
 -- appends bytes as digits in this base to the number n, modulo the prime 2^32 - 5
 unfoldable pub digits : ℕ → ℕ → List ℕ → ℕ
 digits base n [] = n
-digits base n (b ∷ bs) = digits base ((n * base + b) % 0xffff_fffb) bs
+digits base n (b ∷ bs) = digits base ((n * base + b) % 0xFFFF_FFFB) bs
 
 -- two such numbers in different bases, each starting from the length
 unfoldable pub mark_of : List ℕ → ℕ
 mark_of bytes =
-    digits 0x9_e37_79_b1 (length bytes % 0xffff_fffb) bytes * 0x1_0000_0000 + digits 0x85_eb_ca77 (length bytes % 0xffff_fffb) bytes
+    digits 0x9E37_79B1 (length bytes % 0xFFFF_FFFB) bytes * 0x1_0000_0000 + digits 0x85EB_CA77 (length bytes % 0xFFFF_FFFB) bytes

@@ -40,22 +40,22 @@ sample-fields = refl
 
 -- an entry in each section, and the fields: "the core, .. then the arrays at once after it in section order, and zero everywhere else"
 abbrev region : List ℕ
-region = 0xa0000000 ∷ 0x1000 ∷ []
+region = 0xA0000000 ∷ 0x1000 ∷ []
 
 abbrev console : List ℕ
 console = 0x9000000 ∷ 1 ∷ 0x31313070 ∷ 0x1000000 ∷ 115200 ∷ 0 ∷ []
 
 abbrev words : List ℕ
 words =
-    4 ∷ 0x800000_d0
-    ∷ 1 ∷ 0x80000070 ∷ 0xfffffffedfffff8_f ∷ 1 ∷ 0x80000080 ∷ 0xffffffff44_cd0_d0_e
-    ∷ 1 ∷ 0x800000_b0 ∷ 0xfffffffedfffef4_f ∷ 1 ∷ 0x800000_c0 ∷ 0xfffffffecfffdf3_f
+    4 ∷ 0x800000D0
+    ∷ 1 ∷ 0x80000070 ∷ 0xFFFFFFFEDFFFFF8F ∷ 1 ∷ 0x80000080 ∷ 0xFFFFFFFF44CD0D0E
+    ∷ 1 ∷ 0x800000B0 ∷ 0xFFFFFFFEDFFFEF4F ∷ 1 ∷ 0x800000C0 ∷ 0xFFFFFFFECFFFDF3F
     ∷ 0x90000000 ∷ 0x10000000
     ∷ 0x9000000 ∷ 1 ∷ 0x31313070 ∷ 0x1000000 ∷ 115200 ∷ 0
-    ∷ 0xa0000000 ∷ 0x1000 ∷ 0xb0000000 ∷ 0x2000 ∷ []
+    ∷ 0xA0000000 ∷ 0x1000 ∷ 0xB0000000 ∷ 0x2000 ∷ []
 
 pub sample-sections : write_of 0x80000000 4096 4 (description_of (0x90000000 ∷ 0x10000000 ∷ []) console region
-    (0xb0000000 ∷ 0x2000 ∷ []) told)
+    (0xB0000000 ∷ 0x2000 ∷ []) told)
     ≡ a-page (bytes_of words ++ told ++ replicate 3881 0)
 unfolding write_of writer_gate page_of filled core_words descriptor_at array_address descriptor neg plat_word point_to used plat_bytes with_mark
     later_sections_empty description_ok describable is_bare fields_described scan_of judged scan_all scan step push mk_field num_at part le_of

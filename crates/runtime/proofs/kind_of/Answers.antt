@@ -40,12 +40,12 @@ unfolding kind_of
 returns-in_default c =
     let a = c.args in
     simp (
-      ne_eqb a.id 0xc400018_f (search rules),
-      ne_eqb a.id 0xc40001_b0 (search rules),
-      ne_eqb a.id 0xc40001_b1 (search rules),
-      ne_eqb a.id 0xc40001_b2 (search rules),
-      ne_eqb a.id 0xc40001_b3 (search rules),
-      ne_eqb a.id 0xc40001_b4 (search rules),
-      ne_eqb a.id 0xc40001_b5 (search rules),
-      ne_eqb a.id 0xc40001_b6 (search rules),
+      ne_eqb a.id 0xC400_018F (search rules),
+      ne_eqb a.id 0xC400_01B0 (search rules),
+      ne_eqb a.id 0xC400_01B1 (search rules),
+      ne_eqb a.id 0xC400_01B2 (search rules),
+      ne_eqb a.id 0xC400_01B3 (search rules),
+      ne_eqb a.id 0xC400_01B4 (search rules),
+      ne_eqb a.id 0xC400_01B5 (search rules),
+      ne_eqb a.id 0xC400_01B6 (search rules),
     )

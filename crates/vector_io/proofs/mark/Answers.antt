@@ -18,8 +18,8 @@ loop-i-preserved c =
       search rules,
       search rules,
       search rules,
-      rw w (l.invariant.3 ∙ digits_more 0x9_e37_79_b1 l.high l.i a.part.now (omega arith)),
-      rw w (l.invariant.4 ∙ digits_more 0x85_eb_ca77 l.low l.i a.part.now (omega arith)),
+      rw w (l.invariant.3 ∙ digits_more 0x9E37_79B1 l.high l.i a.part.now (omega arith)),
+      rw w (l.invariant.4 ∙ digits_more 0x85EB_CA77 l.low l.i a.part.now (omega arith)),
     )
 
 pub returns : goal.returns
@@ -28,8 +28,8 @@ returns c =
     let a = c.args in
     let l = c.loop-i in
     let e : l.i ≡ length a.part.now = omega arith in
-    let h : digits 0x9_e37_79_b1 (length a.part.now % 0xffff_fffb) a.part.now ≡ l.high = l.invariant.3 ∙
-    rw e (digits-all 0x9_e37_79_b1 l.high a.part.now) in
-    let g : digits 0x85_eb_ca77 (length a.part.now % 0xffff_fffb) a.part.now ≡ l.low = l.invariant.4 ∙
-    rw e (digits-all 0x85_eb_ca77 l.low a.part.now) in
+    let h : digits 0x9E37_79B1 (length a.part.now % 0xFFFF_FFFB) a.part.now ≡ l.high = l.invariant.3 ∙
+    rw e (digits-all 0x9E37_79B1 l.high a.part.now) in
+    let g : digits 0x85EB_CA77 (length a.part.now % 0xFFFF_FFFB) a.part.now ≡ l.low = l.invariant.4 ∙
+    rw e (digits-all 0x85EB_CA77 l.low a.part.now) in
     rw (h, g)

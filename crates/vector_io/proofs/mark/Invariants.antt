@@ -5,9 +5,9 @@ use Rattle.vector_io.specs.Cases.{digits}
 use Rattle.vector_io.proofs.mark.Given as goal
 
 abbrev pub invariant-loop-i : goal.invariant-loop-i
-invariant-loop-i l = (l.i ≤ length l.part) × (l.high < 0xffff_fffb) × (l.low < 0xffff_fffb)
-    × (digits 0x9_e37_79_b1 (length l.part % 0xffff_fffb) l.part ≡ digits 0x9_e37_79_b1 l.high (drop l.i l.part))
-    × (digits 0x85_eb_ca77 (length l.part % 0xffff_fffb) l.part ≡ digits 0x85_eb_ca77 l.low (drop l.i l.part))
+invariant-loop-i l = (l.i ≤ length l.part) × (l.high < 0xFFFF_FFFB) × (l.low < 0xFFFF_FFFB)
+    × (digits 0x9E37_79B1 (length l.part % 0xFFFF_FFFB) l.part ≡ digits 0x9E37_79B1 l.high (drop l.i l.part))
+    × (digits 0x85EB_CA77 (length l.part % 0xFFFF_FFFB) l.part ≡ digits 0x85EB_CA77 l.low (drop l.i l.part))
 
 abbrev pub decreases-loop-i : goal.decreases-loop-i
 decreases-loop-i l = length l.part - l.i
