@@ -1,4 +1,5 @@
-// State blobs for C and Rust; every function has the prefix pbeam_swtpm, and `potterbeam_swtpm_c` exports each under its name. A collector is a lent image of three 32-bit words. A call that can be refused
+// State blobs for C and Rust; every function has the prefix pbeam_swtpm, and `potterbeam_swtpm_c` exports each under its name. A collector
+// is a lent image of three 32-bit words. A call that can be refused
 // returns 0 or the number of the refusal, and a refused call leaves every lent word and byte unchanged.
 #![tactic(auto)]
 

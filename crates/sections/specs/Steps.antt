@@ -1,5 +1,5 @@
 -- For the loops. `rules-steps` (proofs/Sections.antt) proves `ok_to`, `apart_to` and `clear_from` of all sections of an edition together
--- equal to `logic_at` (Section.antt), with padding and platform data; `plat-broken` and `plat-ended` (also there) `plat_end` equal to
+-- equal to `rules_at` (Section.antt), with padding and platform data; `plat-broken` and `plat-ended` (also there) `plat_end` equal to
 -- `platform_ok`. `stays-to` (mend/proofs/Pages.antt) proves `stays_at`, on the
 -- page as mended so far, equal to the mender's `keeps_at`. Assumes nothing.
 use Rattle.std.specs.Prelude.{ℕ, ◌+◌, ◌≡◌, Bool, cond, List, length, leb}

@@ -3,6 +3,7 @@
 
 ghost use Rattle.std.specs.Prelude.{◌≡◌, min, ◌≤◌, ◌<◌};
 ghost use Rattle.io.specs.Counts.{IsPrefixLen};
+ghost use Rattle.std.specs.Str.{IsUtf8};
 ghost use Rattle.words.specs.Word.{word_at};
 ghost use Rattle.vector_io.specs.Cases.{record_at, same_bytes, granules_at, words_from, read_into, fill_into, mark_of};
 
@@ -16,14 +17,17 @@ use words::Span;
 pub const STDOUT: i32 = 1;
 
 // The last decimal digit of n, in ASCII.
-fn digit(n: u64) -> u8 {
+fn digit(n: u64) -> u8
+    ensures { result < 128 }
+{
     48 + (n % 10) as u8
 }
 
 // Opens the file of that name in the current folder; none if it cannot be opened.
-fn open_case(rt: &impl Files<File = File>, name: &[u8]) -> Option<File> {
-    let name = str::from_utf8(name).ok()?;
-    File::open(rt, name).ok()
+fn open_case(rt: &impl Files<File = File>, name: &[u8]) -> Option<File>
+    requires { IsUtf8 name.now }
+{
+    File::open(rt, unsafe { str::from_utf8_unchecked(name) }).ok()
 }
 
 // Reads the bytes of case `n` to the start of `input`, as many as fit, and prints its number. Returns the number of bytes read, 0 if there
