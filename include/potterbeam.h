@@ -436,7 +436,7 @@ extern "C" {
  *                                  (no end mark in the page, tag 0 with a length, a length that tags 1 to 3 may not have, one of
  *                                  these twice) or share a byte with an array
  * Leaves   the page unchanged. view: what the page shows; refused: all zero.
- * Stack    320 bytes; AArch64 352
+ * Stack    320 bytes; AArch64 544
  * A later minor is never refused. Sections after e and bytes after the end mark are not read. Fields belong to every edition.
  * If another CPU writes the page during the call, the view still has only places that were judged, all within the page; which bytes its
  * entries and fields were judged by is then not known.
@@ -451,7 +451,7 @@ int32_t pbeam_read(const uint8_t *page, size_t page_len, uint64_t base, uint64_t
  * Writes   place: the part of the page that holds the array; (0, 0) if the page is refused, the section is absent or empty,
  *          or its number is above 3. pbeam_read returns why a page is refused.
  * Leaves   the page unchanged.
- * Stack    352 bytes; AArch64 384
+ * Stack    320 bytes; AArch64 544
  */
 PBEAM_NONNULL(6)
 void pbeam_array(const uint8_t *page, size_t page_len, uint64_t base, uint64_t edition, size_t section,
@@ -485,7 +485,7 @@ size_t pbeam_count(const uint8_t *page, size_t page_len, const uint64_t view[PBE
  * Takes    page, view and section as pbeam_array_of; entry and word, both counted from 0 (PBEAM_BANK_BASE .., PBEAM_CONSOLE_BASE ..).
  * Returns  the word; 0 if there is no such entry or word, and for the flags of a console if the view's minor is 5 or above.
  * Leaves   page and view unchanged.
- * Stack    32 bytes; AArch64 0
+ * Stack    64 bytes; AArch64 0
  */
 PBEAM_NONNULL(3)
 uint64_t pbeam_word(const uint8_t *page, size_t page_len, const uint64_t view[PBEAM_VIEW_WORDS], size_t section, size_t entry,
@@ -600,7 +600,7 @@ uint64_t pbeam_kept_for(const uint8_t *page, size_t page_len, const uint64_t vie
  * Leaves   the page unchanged. text: ASCII from its first byte, each line ended by '\n', no '\0' at the end; as much as fits. Bytes
  *          after the text are unchanged. For a refused page the text is one line, "refused -5", "refused -6" or
  *          "refused -7", with the code of pbeam_read.
- * Stack    544 bytes; AArch64 864
+ * Stack    640 bytes; AArch64 800
  * A field is its tag and the length of its value in decimal, and each byte of the value as two lower-case hex digits, separated by blanks;
  * the withdrawn one is "3 withdrawn".
  * A word is 0x and 16 lower-case hex digits, a console's name 16 such digits without 0x for its 8 bytes in order; the flags of a
@@ -626,7 +626,7 @@ size_t pbeam_listing(const uint8_t *page, size_t page_len, uint64_t base, uint64
  * Leaves   the whole page written: version, the sections, the arrays directly after the core in section order, then the fields with their
  *          end mark and plat_data pointing at them, or plat_data 0 without fields; zero everywhere else. An empty list becomes a section
  *          of 24 zero bytes. Refused, the page is unchanged. Lists and fields are unchanged.
- * Stack    448 bytes; AArch64 640
+ * Stack    448 bytes; AArch64 480
  */
 PBEAM_MUST_CHECK
 uint32_t pbeam_write(uint64_t base, uint64_t edition, const uint64_t *dram, size_t dram_len, const uint64_t *console, size_t console_len,
@@ -648,7 +648,7 @@ uint32_t pbeam_write(uint64_t base, uint64_t edition, const uint64_t *dram, size
  *          PBEAM_MANIFEST_PLACE    K above 4,096
  *          PBEAM_MANIFEST_PLACE, PBEAM_MANIFEST_VERSION, PBEAM_MANIFEST_RULES  as pbeam_read
  * Leaves   the page unchanged. state: up, with x2, B, the agreed minor and K; refused: closed, permanently.
- * Stack    384 bytes; AArch64 384
+ * Stack    352 bytes; AArch64 576
  * The boot keeps no view. With K = 0 call pbeam_read before a command writes into the page. K need not cover the manifest; with K =
  * 4,096 every buffer is outside.
  * EL3 holds its lock for the call, and marks the CPU as booting under it.
@@ -717,7 +717,7 @@ bool pbeam_is_later(uint64_t a, uint64_t b);
  *          breaks the reader's rule (base and size multiples of 4,096, size not 0, base + size at most 2^52); if a bank starts before the
  *          end of the one before it (they may touch); or if table_len is not the sum of the sizes / PBEAM_GRANULE_BYTES.
  * Leaves   on OK the record, with 0 in the words after its last bank. With PBEAM_X0_INVAL the words are unchanged.
- * Stack    320 bytes; AArch64 352
+ * Stack    352 bytes; AArch64 352
  * It needs no boot record and keeps no pointer: the page may be overwritten afterwards. The reader accepts more than this: banks in any order,
  * overlapping ones, up to 249. Such a board has no record, and its commands answer PBEAM_X0_BAD_ADDR.
  * It copies the banks before it judges them: if the page changes during the call, the record still has only banks that were judged.
@@ -738,7 +738,7 @@ uint64_t pbeam_set_up_granules(uint64_t granules[PBEAM_RESTRICT_WORDS PBEAM_GRAN
  *          PBEAM_X0_BAD_PAS   the granule's byte is not PBEAM_GRANULE_NON_SECURE
  * Leaves   on OK that byte PBEAM_GRANULE_REALM and its bit in the words set; every other byte and bit is unchanged. Refused, table and
  *          words are unchanged.
- * Stack    192 bytes; AArch64 96
+ * Stack    160 bytes; AArch64 64
  * The library updates table and words. Changing the hardware after an OK is up to the platform.
  * One lock spans the call and the change in hardware. Otherwise another CPU undelegates the granule in between, and the hardware ends as
  * Realm where the table is Non-secure.
@@ -752,7 +752,7 @@ void pbeam_delegate(const uint64_t state[PBEAM_STATE_WORDS], const uint64_t gran
  * pbeam_undelegate (0xC40001B1): changes a granule from Realm to Non-secure.
  * As pbeam_delegate, with PBEAM_X0_BAD_PAS if the byte is not PBEAM_GRANULE_REALM; on OK it becomes PBEAM_GRANULE_NON_SECURE, and its
  * bit is cleared. Before that check address B, the shared page, is PBEAM_X0_BAD_ADDR for any byte: it must stay Realm.
- * Stack    192 bytes; AArch64 96
+ * Stack    192 bytes; AArch64 64
  * One lock spans the call and the change in hardware, as for pbeam_delegate.
  */
 PBEAM_NONNULL(1, 2, 8)
@@ -800,7 +800,7 @@ void pbeam_undelegate_list(const uint64_t state[PBEAM_STATE_WORDS], const uint64
  * pbeam_realm_count: the number of Realm granules. It reads only the words, so a board does not stall while the table is scanned.
  * Takes    the granule record, the words, and a word for the number.
  * Returns  PBEAM_X0_OK with the number, or PBEAM_X0_INVAL with 0. Set spare bits are not counted.
- * Stack    32 bytes; AArch64 0
+ * Stack    64 bytes; AArch64 0
  */
 PBEAM_MUST_CHECK PBEAM_NONNULL(1, 4)
 uint64_t pbeam_realm_count(const uint64_t granules[PBEAM_GRANULES_WORDS], const uint64_t *words, size_t words_len,
@@ -811,7 +811,7 @@ uint64_t pbeam_realm_count(const uint64_t granules[PBEAM_GRANULES_WORDS], const 
  * Takes    the granule record, the words, the index to start at, and a word for the index found.
  * Returns  PBEAM_X0_OK with the index; PBEAM_REALM_NONE with 0 if there is no such granule; PBEAM_X0_INVAL with 0, also for an index that is
  *          not below the number of granules. To visit all: start at 0, then at the index found + 1, while that is below this number.
- * Stack    32 bytes; AArch64 0
+ * Stack    64 bytes; AArch64 0
  */
 PBEAM_MUST_CHECK PBEAM_NONNULL(1, 5)
 uint64_t pbeam_realm_next(const uint64_t granules[PBEAM_GRANULES_WORDS], const uint64_t *words, size_t words_len, uint64_t index,
@@ -822,7 +822,7 @@ uint64_t pbeam_realm_next(const uint64_t granules[PBEAM_GRANULES_WORDS], const u
  * Takes    the granule record, the granule table and the words.
  * Returns  PBEAM_X0_OK if they agree, PBEAM_REALM_DIFFER if they differ, or PBEAM_X0_INVAL, also if table_len is not the number of
  *          the record's granules.
- * Stack    160 bytes; AArch64 64
+ * Stack    128 bytes; AArch64 64
  */
 PBEAM_NONNULL(1)
 uint64_t pbeam_realm_agrees(const uint64_t granules[PBEAM_GRANULES_WORDS], const uint8_t *table, size_t table_len, const uint64_t *words,
@@ -833,7 +833,7 @@ uint64_t pbeam_realm_agrees(const uint64_t granules[PBEAM_GRANULES_WORDS], const
  * Takes    the granule record, the granule table and the words.
  * Returns  PBEAM_X0_OK, or PBEAM_X0_INVAL, also if table_len is not the number of the record's granules.
  * Leaves   on OK the words of the table, spare bits 0. With PBEAM_X0_INVAL the words are unchanged.
- * Stack    160 bytes; AArch64 64
+ * Stack    128 bytes; AArch64 64
  */
 PBEAM_MUST_CHECK PBEAM_NONNULL(1)
 uint64_t pbeam_realm_build(const uint64_t granules[PBEAM_GRANULES_WORDS], const uint8_t *table, size_t table_len,
@@ -971,7 +971,7 @@ uint64_t pbeam_forward(const uint64_t state[PBEAM_STATE_WORDS], uint64_t x1);
  *          PBEAM_X0_AGAIN     eight responses waiting; the request is kept
  * Leaves   on OK the queue with one request less and one response more: rec_granule and req_ticket of the request, and the signature.
  *          Refused, the queue is unchanged.
- * Stack    224 bytes; AArch64 192
+ * Stack    224 bytes; AArch64 224
  * One lock spans pbeam_oldest, the making of the signature and this call. With a lock around each alone, two signers get the same request;
  * the second signature goes to the next ticket, whose hash it is not for, and both calls are OK. If there is only one signer, it may
  * release the lock while it makes the signature: only this function removes a request.
@@ -1015,7 +1015,7 @@ size_t pbeam_responses(const uint64_t queue[PBEAM_QUEUE_WORDS]);
  *          PBEAM_ID_DELEGATE and PBEAM_ID_UNDELEGATE use the words, and check words_len before the record.
  * Leaves   what the command leaves; everything else is unchanged. Only PBEAM_ID_PLATFORM_TOKEN reads or writes the session, only
  *          PBEAM_ID_TOKEN_SIGNING the queue.
- * Stack    416 bytes with PBEAM_ID_TOKEN_SIGNING, 384 bytes with any other id; AArch64 544
+ * Stack    448 bytes with PBEAM_ID_TOKEN_SIGNING, 448 bytes with any other id; AArch64 576
  * One lock spans what EL3 copies before the call, the call, and what the hardware must do after it ("One lock" at the head of this file).
  */
 PBEAM_NONNULL(1, 2, 3, 6, 19, 20, 21)

@@ -70,7 +70,7 @@ extern "C" {
  *          PBEAM_PACK_W1_TARGET    target not 4,096 bytes long
  * Leaves   the page unchanged. target: the page that pbeam_write makes at the page's own minor, from the entries that the page shows and its
  *          fields in page order, without the withdrawn one; so plat_data is 0 if no other field is left. Refused, target is unchanged.
- * Stack    320 bytes; AArch64 352
+ * Stack    352 bytes; AArch64 320
  * A reader of any edition shows the same for both, except plat_data, the withdrawn field and the offsets of the arrays; packing the target
  * again changes no byte (proved).
  * If another CPU writes the page during the call, no access leaves page or target, but target may then be no valid page: read it again.

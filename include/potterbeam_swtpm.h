@@ -152,7 +152,7 @@ uint32_t pbeam_swtpm_read_response(const uint8_t *message, size_t message_len, u
  *          PBEAM_SWTPM_ABOVE_LARGEST  data_len is above largest
  *          PBEAM_SWTPM_NO_ROOM        the buffer has fewer than 16 + data_len bytes
  * Leaves   the data unchanged. On OK the message at the buffer's start, the bytes after it unchanged, and 16 + data_len in *len.
- * Stack    64 bytes; AArch64 32
+ * Stack    96 bytes; AArch64 32
  */
 PBEAM_MUST_CHECK PBEAM_NONNULL(9)
 uint32_t pbeam_swtpm_write_response(uint8_t *PBEAM_RESTRICT buffer, size_t buffer_len, uint32_t largest, uint32_t result, uint32_t flags,

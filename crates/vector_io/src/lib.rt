@@ -1,6 +1,8 @@
 // Loads the numbered case files of a test program (c000, c001, ..), and reads and prints what the test programs have in common.
 #![tactic(auto)]
 
+mod descriptor;
+
 ghost use Rattle.std.specs.Prelude.{◌≡◌, min, ◌≤◌, ◌<◌};
 ghost use Rattle.io.specs.Counts.{IsPrefixLen};
 ghost use Rattle.std.specs.Str.{IsUtf8};
@@ -8,13 +10,11 @@ ghost use Rattle.words.specs.Word.{word_at};
 ghost use Rattle.vector_io.specs.Cases.{record_at, same_bytes, granules_at, words_from, read_into, fill_into, mark_of};
 
 use boot::{Params, Record};
+pub use descriptor::STDOUT;
 use std::fs::File;
 use std::os::fd::AsRawFd;
 use std::rt::Files;
 use words::Span;
-
-// The descriptor of standard output.
-pub const STDOUT: i32 = 1;
 
 // The last decimal digit of n, in ASCII.
 fn digit(n: u64) -> u8
