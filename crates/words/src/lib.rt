@@ -32,7 +32,7 @@ pub fn widen(x: u8) -> u64
 }
 
 // The N bytes at `at`, if they are all in the slice.
-fn chunk_at<const N: usize>(s: &[u8], at: usize) -> Option<&[u8; N]>
+pub fn chunk_at<const N: usize>(s: &[u8], at: usize) -> Option<&[u8; N]>
     ensures { MatchOption result (length s.now < at + N) (λ y. (at + N ≤ length s.now) × (y.now ≡ part at N s.now)) }
 {
     s.get(at..)?.first_chunk()
@@ -106,7 +106,7 @@ pub fn u16_at(s: &[u8], at: usize) -> u64
 }
 
 // Writes `bytes` at `at`. If they do not all fit, no byte changes (PG5).
-fn put(s: &mut [u8], at: usize, bytes: &[u8])
+pub fn put(s: &mut [u8], at: usize, bytes: &[u8])
     ensures { s.new ≡ laid at bytes.now s.old }
 {
     if at <= s.len() && bytes.len() <= s.len() - at {
