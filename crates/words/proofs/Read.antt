@@ -2,13 +2,12 @@
 use Prim.Native.Nat.{ℕ, zero, suc, ◌+◌, ◌-◌, ◌*◌, ◌/◌, ◌^◌, ◌≤◌, ◌<◌}
 use mathlib.Core.Path.{◌≡◌, refl, sym, ap, ◌∙◌}
 use mathlib.Core.List.{List, [], ◌∷◌, ◌++◌}
-use native.Mathlib.Nat.{pow-le-pow_right, pow-suc, add-suc, suc-add, add-zero, zero-add, mul_assoc, mul_left_comm, div-one}
+use native.Mathlib.Nat.{pow-suc, add-suc, suc-add, add-zero, zero-add, mul_assoc, mul_left_comm, div-one}
 use native.Mathlib.Nat.{div-div-eq-div-mul, mul_comm, not-suc-le-zero}
 use native.Mathlib.Numerals.{add-one}
 use native.Mathlib.Omega.{arith}
-use lib.Dec.{lit≤}
 use lib.ListN.{length, take, drop, get_or, length-take, length-drop, drop_of_length-le}
-use lib.Seq.{length-take-le, take-nil, take_all, drop-cons, drop-drop, ext_get_or, get_or-take, get_or-drop}
+use lib.Seq.{length-take-le, take-nil, take_all, drop-drop, ext_get_or, get_or-take, get_or-drop}
 use borrow.Author.Tests.{le-leb}
 use Rattle.words.specs.Word.{le_of, le_bytes, part, num_at, word_at, words_of}
 use Rattle.words.specs.Fast.{whole_word}

@@ -28,7 +28,7 @@ pub struct Span {
 pub fn widen(x: u8) -> u64
     ensures { (result ≡ x) × (result < 0x100) }
 {
-    x as u64
+    u64::from(x)
 }
 
 // The N bytes at `at`, if they are all in the slice.
@@ -43,7 +43,10 @@ fn number(bytes: &[u8]) -> u64
     requires { length bytes.now < 8 }
     ensures { result ≡ le_of bytes.now }
 {
-    bytes.iter().rev().fold(0, |sum, byte| sum << 8 | u64::from(*byte))
+    bytes
+        .iter()
+        .rev()
+        .fold(0, |sum, byte| sum << 8 | u64::from(*byte))
 }
 
 // The word at `at` if the slice has at most 7 bytes from there on.
@@ -164,10 +167,7 @@ pub fn copy(to: &mut [u8], from: &[u8])
 pub fn smaller(a: u64, b: u64) -> u64
     ensures { result ≡ min a b }
 {
-    if a < b {
-        return a;
-    }
-    b
+    a.min(b)
 }
 
 // The span of `len` bytes at `at`. An empty span is at 0.

@@ -13,10 +13,10 @@ unfolding spanned span_start on_from
 returns-then-s-span c =
     let a = c.args in
     let l : length a.s.now < a.span.at + a.span.len =
-      elim c.then-s-span.branch [
-        then-s-span-via-then-s-span w ↦ omega arith
+    elim c.then-s-span.branch [
+      | then-s-span-via-then-s-span w ↦ omega arith
       | then-s-span-via-else-s-span+then-s-span-2 w ↦ omega arith
-      ] in
+    ] in
     simp (lt-leb (a.span.at + a.span.len) (length a.s.now) l) record { result_value = refl; ref_ptr_value = ap (λ x. (a.s.ref_ptr.0, x)) (omega arith) }
 
 pub returns : goal.returns

@@ -17,6 +17,6 @@ pub returns-else-at-s : goal.returns-else-at-s
 returns-else-at-s c =
     let a = c.args in
     elim c.else-at-s.branch [
-      else-at-s-via-then-at-s+else-bytes-s w ↦ sym (bytes-out a.at a.bytes.now a.s.now (omega arith))
-    | else-at-s-via-else-at-s w ↦ sym (bytes-out a.at a.bytes.now a.s.now (omega arith))
+      | else-at-s-via-then-at-s+else-bytes-s w ↦ sym (bytes-out a.at a.bytes.now a.s.now (omega arith))
+      | else-at-s-via-else-at-s w ↦ sym (bytes-out a.at a.bytes.now a.s.now (omega arith))
     ]

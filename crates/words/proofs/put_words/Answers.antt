@@ -1,4 +1,4 @@
-use Rattle.std.proofs.Common.{◌≡◌, ◌∙◌, ◌≤◌, ◌+◌, ◌*◌, length, sym, refl, arith}
+use Rattle.std.proofs.Common.{◌∙◌, ◌≤◌, ◌+◌, ◌*◌, length, sym, refl, arith}
 use Rattle.words.proofs.Store.{words-none, words_more, words-all, words-out, put_in}
 use Rattle.words.proofs.put_words.Goals as goal
 use Rattle.words.proofs.put_words.Goals.{else-at-s-via-then-at-s+else-words-s, else-at-s-via-else-at-s}
@@ -25,6 +25,6 @@ pub returns-else-at-s : goal.returns-else-at-s
 returns-else-at-s c =
     let a = c.args in
     elim c.else-at-s.branch [
-      else-at-s-via-then-at-s+else-words-s w ↦ sym (words-out a.at a.words.now a.s.now (omega arith))
-    | else-at-s-via-else-at-s w ↦ sym (words-out a.at a.words.now a.s.now (omega arith))
+      | else-at-s-via-then-at-s+else-words-s w ↦ sym (words-out a.at a.words.now a.s.now (omega arith))
+      | else-at-s-via-else-at-s w ↦ sym (words-out a.at a.words.now a.s.now (omega arith))
     ]

@@ -1,4 +1,4 @@
-use Rattle.std.proofs.Common.{◌+◌, ◌∙◌, arith, rules}
+use Rattle.std.proofs.Common.{◌+◌, ◌∙◌, arith}
 use Rattle.words.proofs.Read.{num-chunk, num-one, num-add, num-out}
 use Rattle.words.proofs.u16_at.Goals as goal
 

@@ -1,4 +1,4 @@
-use Rattle.std.proofs.Common.{◌+◌, ◌∙◌, length, arith, sym}
+use Rattle.std.proofs.Common.{◌+◌, length, arith}
 use borrow.Author.Tests.{le-leb, lt-leb}
 use Rattle.words.specs.Fast.{whole_word}
 use Rattle.words.proofs.Read.{num-chunk}
