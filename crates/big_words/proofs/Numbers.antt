@@ -1,12 +1,13 @@
 -- The laws of big-endian numbers, for every width. Assumes nothing.
-use Prim.Native.Nat.{ℕ, zero, suc, ◌+◌, ◌*◌, ◌/◌, ◌%◌, ◌^◌, ◌≤◌, ◌<◌}
+use Prim.Native.Nat.{ℕ, zero, suc, ◌+◌, ◌*◌, ◌^◌, ◌≤◌, ◌<◌}
 use mathlib.Core.Path.{◌≡◌, refl, ap, ◌∙◌}
 use mathlib.Core.List.{List, [], ◌∷◌, ◌++◌, reverse, reverse-cons, reverse-append, reverse-reverse}
-use native.Mathlib.Nat.{add-zero, add-suc, add_assoc, mul_assoc, pow-suc}
+use native.Mathlib.Nat.{div-div-eq-div-mul, add-zero, add-suc, add_assoc, mul_assoc, pow-suc}
 use native.Mathlib.Omega.{arith}
 use borrow.Author.Tests.{le-leb, lt-leb}
 use lib.ListN.{length, take, drop, get_or, length-drop, length-reverse}
-use lib.Seq.{take-suc, take_at, drop_at, get_or-drop}
+use lib.Seq.{take-suc, take_at, drop_at, get_or-drop, get_or-take}
+use Rattle.std.specs.Int.{w32, from_be_bytes, to_be_bytes}
 use Rattle.words.specs.Word.{le_of, le_bytes, part, splice, laid}
 use Rattle.words.proofs.Read.{le_bytes-length, le_of-le_bytes}
 use Rattle.words.proofs.Store.{bytes-in}
@@ -47,31 +48,29 @@ big-add m (suc n) off s h =
     rw (add-suc, big-suc (m + n) off s (omega arith), big-suc n (off + m) s (omega arith), pow-suc, add_assoc)
     (omega (arith, big-add m n off s (omega arith), mul_assoc (big_at m off s) (256 ^ n) 256))
 
--- ---- a number written: the big-endian bytes of w are the little-endian bytes of the swapped number
-le_step : (n b x : ℕ) → b < 256 → le_bytes (suc n) (b + 256 * x) ≡ b ∷ le_bytes n x
-unfolding le_bytes
-le_step n b x h =
-    let p : (b + 256 * x) % 256 ≡ b = omega arith in
-    let q : (b + 256 * x) / 256 ≡ x = omega arith in
-    rw (p, q)
+-- ---- the number that std reads from the bytes at an offset, and the bytes that it writes of a number
+pub big-chunk : (off : ℕ) (bs s : List ℕ) → off + 4 ≤ length s → bs ≡ part off 4 s → {x : ℕ} → x ≡ from_be_bytes w32 bs → x ≡ big_at 4 off s
+unfolding part
+big-chunk off bs s l e {x} h =
+    let byte-of : (i : ℕ) → i < 4 → get_or (take 4 (drop off s)) i 0 ≡ get_or s (off + i) 0 = λ i k. simp (get_or-take, get_or-drop) in
+    let g : (i : ℕ) → i < 4 → get_or bs i 0 ≡ get_or s (off + i) 0 = λ i k. rw e (byte-of i k) in
+    omega (
+      arith,
+      h,
+      g 0 (omega arith),
+      g 1 (omega arith),
+      g 2 (omega arith),
+      g 3 (omega arith),
+      big-zero off s,
+      big-suc 0 off s (omega arith),
+      big-suc 1 off s (omega arith),
+      big-suc 2 off s (omega arith),
+      big-suc 3 off s (omega arith),
+    )
 
-le_four : (a b c d r : ℕ) → a < 256 → b < 256 → c < 256 → d < 256 → r ≡ a + b * 0x100 + c * 0x10000 + d * 0x1000000 →
-    le_bytes 4 r ≡ a ∷ b ∷ c ∷ d ∷ []
-unfolding le_bytes
-le_four a b c d r ha hb hc hd e =
-    let q : r ≡ a + 256 * (b + 256 * (c + 256 * (d + 256 * 0))) = omega arith in
-    ap (le_bytes 4) q
-    ∙ le_step 3 a (b + 256 * (c + 256 * (d + 256 * 0))) ha
-    ∙ ap (λ (l : List ℕ). a ∷ l) (le_step 2 b (c + 256 * (d + 256 * 0)) hb
-    ∙ ap (λ (l : List ℕ). b ∷ l) (le_step 1 c (d + 256 * 0) hc
-    ∙ ap (λ (l : List ℕ). c ∷ l) (le_step 0 d 0 hd)))
-
-pub swap_bytes : (w r : ℕ) → r ≡ w / 256 / 256 / 256 % 256 + w / 256 / 256 % 256 * 0x100 + w / 256 % 256 * 0x10000 + w % 256 * 0x1000000 →
-    le_bytes 4 r ≡ be_bytes 4 w
+pub bytes-of : (w : ℕ) → to_be_bytes w32 w ≡ be_bytes 4 w
 unfolding be_bytes le_bytes
-swap_bytes w r e =
-    le_four (w / 256 / 256 / 256 % 256) (w / 256 / 256 % 256) (w / 256 % 256) (w % 256) r (omega arith) (omega arith) (omega arith)
-    (omega arith) e
+bytes-of w = simp div-div-eq-div-mul refl
 
 -- the usual sum: the first of n bytes counts 256 ^ (n - 1), and the other bytes follow
 le-snoc : (bs : List ℕ) (b : ℕ) → le_of (bs ++ (b ∷ [])) ≡ le_of bs + b * 256 ^ length bs

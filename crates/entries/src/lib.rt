@@ -39,15 +39,9 @@ pub fn fits(k: usize, count: u64, room: u64) -> bool
     ensures { result ≡ nat_le (size k count) room }
 {
     if k == 1 {
-        if room / CONSOLE_BYTES < count {
-            return false;
-        }
-        return true;
+        return count <= room / CONSOLE_BYTES;
     }
-    if room / BANK_BYTES < count {
-        return false;
-    }
-    true
+    count <= room / BANK_BYTES
 }
 
 // Bits of many entries, combined with "or". The rule holds for every entry exactly if they are clear (`banks_clear`, `consoles_clear`). So
@@ -76,8 +70,8 @@ impl Bits {
 pub fn with_bank(bits: Bits, base: u64, size: u64) -> Bits
     ensures { bank_clear result ≡ both (bank_clear bits) (bank_ok base size) }
 {
-    let span = std::num::wrapping_sub_u64(size, 1);
-    let last = std::num::wrapping_add_u64(base, span);
+    let span = size.wrapping_sub(1);
+    let last = base.wrapping_add(span);
     Bits {
         low: bits.low | (base | size),
         high: bits.high | (span | last),
@@ -89,8 +83,8 @@ pub fn with_bank(bits: Bits, base: u64, size: u64) -> Bits
 pub fn with_console(bits: Bits, minor: u64, base: u64, pages: u64, flags: u64) -> Bits
     ensures { console_clear minor result ≡ both (console_clear minor bits) (console_ok minor base pages flags) }
 {
-    let span = std::num::wrapping_sub_u64(pages, 1);
-    let last = std::num::wrapping_add_u64(base / words::PAGE_SIZE, span);
+    let span = pages.wrapping_sub(1);
+    let last = (base / words::PAGE_SIZE).wrapping_add(span);
     Bits {
         low: bits.low | base,
         high: bits.high | (span | last),
@@ -150,7 +144,7 @@ fn sum_words(page: &[u8], at: usize, n: usize) -> u64
     for i in 0..n {
         let end = from + 8;
         let cell = &page[from..end];
-        sum = std::num::wrapping_add_u64(sum, words::whole_word(cell, 0));
+        sum = sum.wrapping_add(words::whole_word(cell, 0));
         from = end;
     }
     sum
@@ -169,8 +163,7 @@ fn sum_and_check_banks(page: &[u8], minor: u64, k: usize, at: usize, count: usiz
         let bank = &page[from..end];
         let base = words::whole_word(bank, 0);
         let size = words::whole_word(bank, 8);
-        sum = std::num::wrapping_add_u64(sum, base);
-        sum = std::num::wrapping_add_u64(sum, size);
+        sum = sum.wrapping_add(base).wrapping_add(size);
         bits = with_bank(bits, base, size);
         from = end;
     }
@@ -237,9 +230,7 @@ fn array_rules_ok(
         return false;
     }
     let found = sum_and_check(page, minor, k, at, count as usize);
-    let head = std::num::wrapping_add_u64(count, pointer);
-    let tail = std::num::wrapping_add_u64(found.sum, check);
-    if std::num::wrapping_add_u64(head, tail) != 0 {
+    if count.wrapping_add(pointer).wrapping_add(found.sum.wrapping_add(check)) != 0 {
         return false;
     }
     found.ok

@@ -24,16 +24,7 @@ pub fn major(version: u64) -> u64
 pub fn is_accepted(version: u64) -> bool
     ensures { result ≡ version_ok version }
 {
-    if version / 0x8000_0000 != 0 {
-        return false;
-    }
-    if major(version) != 0 {
-        return false;
-    }
-    if minor(version) < 1 {
-        return false;
-    }
-    true
+    version / 0x8000_0000 == 0 && major(version) == 0 && 1 <= minor(version)
 }
 
 // Whether `a` is later than `b` (VN2). Versions compare as numbers: 0.10 is later than 0.9.
@@ -47,20 +38,14 @@ pub fn is_later(a: u64, b: u64) -> bool
 pub fn agreed_minor(version: u64) -> u64
     ensures { (result ≡ agreed version) × (result ≤ 5) }
 {
-    words::smaller(5, minor(version))
+    minor(version).min(5)
 }
 
 // Whether `edition` is 1 to 4.
 pub fn is_edition(edition: u64) -> bool
     ensures { result ≡ edition_ok edition }
 {
-    if edition < 1 {
-        return false;
-    }
-    if 4 < edition {
-        return false;
-    }
-    true
+    (1..=4).contains(&edition)
 }
 
 // An edition of the layout, given as a minor. A minor below 1 counts as 1 and one above 4 as 4, so every number is an edition.
@@ -86,8 +71,7 @@ impl Edition {
     pub fn core_size(self) -> u64
         ensures { (result ≡ core self.minor) × (result ≤ 112) }
     {
-        let minor = self.minor;
-        match minor {
+        match self.minor {
             0 | 1 => Edition::CORE_1,
             2 => Edition::CORE_2,
             3 => Edition::CORE_3,
@@ -99,8 +83,7 @@ impl Edition {
     pub fn sections(self) -> u8
         ensures { (result ≡ section_count self.minor) × (result ≤ 4) }
     {
-        let minor = self.minor;
-        match minor {
+        match self.minor {
             0 | 1 => 0,
             2 => 1,
             3 => 2,

@@ -8,6 +8,11 @@ use lib.ListN.{length, take, drop, get_or, replicate, length-drop, take-append-d
 use lib.Seq.{get_or-drop, length-take-le}
 use lib.Dec.{lit≤}
 use borrow.Author.Tests.{lt-ltb}
+use lib.Seq.{take_all}
+use Rattle.std.proofs.Common.{reverse, fold, bit_or}
+use Rattle.std.proofs.lemmas.Grind.{reverse_onto}
+use Rattle.std.proofs.lemmas.List.Sums.{fold_push}
+use Rattle.std.proofs.lemmas.Nat.{or_shifted}
 use Rattle.words.specs.Tests.{Yes}
 use Rattle.words.specs.Word.{le_of, le_bytes, part, words_of, bytes_of, are_words}
 use Rattle.words.proofs.Tests.{both_of}
@@ -71,3 +76,16 @@ words_back zero (x ∷ bs) b h = absurd (let z : ⊥ = omega arith in z)
 words_back (suc n) bs b h =
     rw (number-back 8 bs b (omega arith), words_back n (drop 8 bs) (bytes_drop 8 bs b) (rw length-drop (omega arith)))
     (take-append-drop 8 bs)
+
+-- the number made of the bytes from the last to the first, each shifted in from below
+shifted : (n b : ℕ) → n < 256 ^ 7 → b < 256 → bit_or (n * 2 ^ 8 % 2 ^ 64) b ≡ b + 256 * n
+shifted n b h l =
+    let z : n * 2 ^ 8 % 2 ^ 64 ≡ n * 2 ^ 8 = omega arith in rw (z, or_shifted n 8 b l) (omega arith)
+
+pub number-folded : (bs : List ℕ) → Bytes bs → length bs ≤ 7 → fold (λ n b. bit_or (n * 2 ^ 8 % 2 ^ 64) b) 0 (reverse bs) ≡ le_of bs
+unfolding le_of
+number-folded [] b h = refl
+number-folded (x ∷ bs) b h =
+    let i = number-folded bs (λ j. b (suc j)) (omega arith) in
+    let m : le_of (take 7 bs) < 256 ^ 7 = number-below 7 bs (λ j. b (suc j)) in
+    rw (reverse_onto bs x [], fold_push, i) (shifted (le_of bs) x (rw (take_all 7 bs (omega arith)) at m) (b 0))

@@ -2,16 +2,17 @@
 use Prim.Native.Nat.{ℕ, zero, suc, ◌+◌, ◌-◌, ◌*◌, ◌/◌, ◌^◌, ◌≤◌, ◌<◌}
 use mathlib.Core.Path.{◌≡◌, refl, sym, ap, ◌∙◌}
 use mathlib.Core.List.{List, [], ◌∷◌, ◌++◌}
-use native.Mathlib.Nat.{pow-le-pow_right, pow-suc, add-suc, suc-add, add-zero, zero-add, mul_assoc, mul_left_comm, div-one}
+use native.Mathlib.Nat.{pow-suc, add-suc, suc-add, add-zero, zero-add, mul_assoc, mul_left_comm, div-one}
 use native.Mathlib.Nat.{div-div-eq-div-mul, mul_comm, not-suc-le-zero}
 use native.Mathlib.Numerals.{add-one}
 use native.Mathlib.Omega.{arith}
-use lib.Dec.{lit≤}
 use lib.ListN.{length, take, drop, get_or, length-take, length-drop, drop_of_length-le}
-use lib.Seq.{length-take-le, take-nil, take_all, drop-cons, drop-drop, ext_get_or, get_or-take, get_or-drop}
+use lib.Seq.{length-take-le, take-nil, take_all, drop-drop, ext_get_or, get_or-take, get_or-drop}
 use borrow.Author.Tests.{le-leb}
 use Rattle.words.specs.Word.{le_of, le_bytes, part, num_at, word_at, words_of}
 use Rattle.words.specs.Fast.{whole_word}
+use Rattle.std.specs.Int.{w64, to_le_bytes, byte_worth, sum_through}
+use Rattle.std.specs.List.{slice_index}
 
 pub num-zero : (off : ℕ) (s : List ℕ) → num_at 0 off s ≡ 0
 unfolding num_at part le_of
@@ -62,35 +63,14 @@ unfolding le_bytes
 le_bytes-split zero n x = rw (zero-add, div-one)
 le_bytes-split (suc m) n x = rw (suc-add, le_bytes-split m n (x / 256), div-div-eq-div-mul, pow-suc, mul_comm 256 (256 ^ m))
 
--- ---- the number made by the bytes from i to the end, for a loop that runs down from the end
-unfoldable pub rest_of : ℕ → List ℕ → ℕ
-rest_of i s = le_of (drop i s)
-
-pub rest-none : (s : List ℕ) → rest_of (length s) s ≡ 0
-unfolding rest_of le_of
-rest-none s = rw (drop_of_length-le s {i = length s} (omega arith))
-
-pub rest_more : (s : List ℕ) (i : ℕ) → i < length s → rest_of i s ≡ get_or s i 0 + 256 * rest_of (i + 1) s
-unfolding rest_of le_of
-rest_more s i h = rw (add-one, drop-cons s i 0)
-
-pub rest-num : (n i : ℕ) (s : List ℕ) → length s ≤ i + n → rest_of i s ≡ num_at n i s
-unfolding rest_of num_at part
-rest-num n i s h = ap le_of (sym (take_all n (drop i s) (omega (arith, length-drop i s))))
+-- the number made by all bytes from i on
+pub num-rest : (n i : ℕ) (s : List ℕ) → length s ≤ i + n → le_of (drop i s) ≡ num_at n i s
+unfolding num_at part
+num-rest n i s h = ap le_of (sym (take_all n (drop i s) (omega (arith, length-drop i s))))
 
 -- two widths that both reach the end of the list give the same number
 pub num-short : (m n i : ℕ) (s : List ℕ) → length s ≤ i + m → length s ≤ i + n → num_at m i s ≡ num_at n i s
-num-short m n i s h k = sym (rest-num m i s h) ∙ rest-num n i s k
-
--- the sum of at most 6 bytes leaves room for one more
-pub rest-room : (n i at sum : ℕ) → at < i → n < at + 8 → i ≤ n → sum < 256 ^ (n - i) → sum < 256 ^ 6
-rest-room n i at sum h k l b = let m : 256 ^ (n - i) ≤ 256 ^ 6 = pow-le-pow_right (lit≤ tt) {j = 6} (omega arith) in omega arith
-
-pub rest-grow : (n i b sum : ℕ) → 0 < i → i ≤ n → b < 256 → sum < 256 ^ (n - i) → b + sum * 256 < 256 ^ (n - (i - 1))
-rest-grow n i b sum h k l m = rw (let e : n - (i - 1) ≡ suc (n - i) = omega arith in e, pow-suc) (omega arith)
-
-pub rest-start : (n : ℕ) → 0 < 256 ^ (n - n)
-rest-start n = rw (let e : n - n ≡ 0 = omega arith in e) (omega arith)
+num-short m n i s h k = sym (num-rest m i s h) ∙ num-rest n i s k
 
 -- ---- numbers in a part of a list, and lists of words
 -- a number in a part is a number in the whole
@@ -140,3 +120,27 @@ part_same off n p q l h =
     ext_get_or 0 (take n (drop off p)) (take n (drop off q)) (simp (length-take, length-drop, l)) (λ i k.
     let j : i < n = omega (arith, simp (length-take, length-drop) at k) in
     simp (get_or-take, get_or-drop) (h (off + i) (omega arith) (omega arith)))
+
+-- ---- the number that std reads from the bytes at an offset, and the bytes that it writes of a number
+num-worth : (n : ℕ) (bs : List ℕ) → sum_through (λ i. byte_worth i (slice_index bs i)) n ≡ num_at (suc n) 0 bs
+num-worth zero bs = sym (num-one 0 bs)
+num-worth (suc n) bs =
+    rw (num-worth n bs, mul_comm (get_or bs (suc n) 0) (256 ^ suc n))
+    (let e = num-add (suc n) 1 0 bs in rw (zero-add, num-one (suc n) bs, add-one) at (sym e))
+
+pub num-chunk : (n off : ℕ) (bs s : List ℕ) → bs ≡ part off (suc n) s → {x : ℕ} → x ≡ sum_through (λ i. byte_worth i (slice_index bs i)) n →
+    x ≡ num_at (suc n) off s
+num-chunk n off bs s e h =
+    h ∙ num-worth n bs ∙ rw e (num-part (suc n) off (suc n) 0 s (omega arith)) ∙ ap (λ i. num_at (suc n) i s) (add-zero off)
+
+pub bytes-of_2 : (w : ℕ) → take 2 (to_le_bytes w64 w) ≡ le_bytes 2 w
+unfolding le_bytes
+bytes-of_2 w = refl
+
+pub bytes-of_4 : (w : ℕ) → take 4 (to_le_bytes w64 w) ≡ le_bytes 4 w
+unfolding le_bytes
+bytes-of_4 w = simp div-div-eq-div-mul refl
+
+pub bytes-of_8 : (w : ℕ) → to_le_bytes w64 w ≡ le_bytes 8 w
+unfolding le_bytes
+bytes-of_8 w = simp div-div-eq-div-mul refl

@@ -2,8 +2,8 @@
 // lists of words; copies, clears and cuts slices.
 #![tactic(auto)]
 
-ghost use Rattle.std.specs.Prelude.{◌≡◌, min, ◌+◌, ◌<◌, ◌≤◌, length, get_or, replicate};
-ghost use Rattle.words.specs.Word.{le_bytes, num_at, word_at, u32_at, bytes_of, splice, laid, span_at, spanned, span_start, on_from};
+ghost use Rattle.std.specs.Prelude.{◌≡◌, min, ◌+◌, ◌<◌, ◌≤◌, length, get_or, replicate, MatchOption};
+ghost use Rattle.words.specs.Word.{le_of, le_bytes, part, num_at, word_at, u32_at, bytes_of, splice, laid, span_at, spanned, span_start, on_from};
 ghost use Rattle.words.specs.Fast.{whole_word};
 
 // Length of the manifest's page, of a granule and of the shared buffer, in bytes: as a number of the interface and as a length.
@@ -28,67 +28,46 @@ pub struct Span {
 pub fn widen(x: u8) -> u64
     ensures { (result ≡ x) × (result < 0x100) }
 {
-    x as u64
+    u64::from(x)
 }
 
-// The 1, 4 or 8 bytes at `at` as a number. `read_u32` and `read_u64` are one sum of bytes in place: the compiler turns it into one load and can
-// vectorize a loop over words.
-fn read_u8(s: &[u8], at: usize) -> u64
-    requires { at < length s.now }
-    ensures { (result ≡ num_at 1 at s.now) × (result < 0x100) }
+// The N bytes at `at`, if they are all in the slice.
+pub fn chunk_at<const N: usize>(s: &[u8], at: usize) -> Option<&[u8; N]>
+    ensures { MatchOption result (length s.now < at + N) (λ y. (at + N ≤ length s.now) × (y.now ≡ part at N s.now)) }
 {
-    widen(s[at])
+    s.get(at..)?.first_chunk()
 }
 
-fn read_u32(s: &[u8], at: usize) -> u64
-    requires { at + 4 ≤ length s.now }
-    ensures { (result ≡ num_at 4 at s.now) × (result < 0x1_0000_0000) }
+// The number that at most 7 bytes encode.
+fn number(bytes: &[u8]) -> u64
+    requires { length bytes.now < 8 }
+    ensures { result ≡ le_of bytes.now }
 {
-    widen(s[at])
-        + widen(s[at + 1]) * 0x100
-        + widen(s[at + 2]) * 0x1_0000
-        + widen(s[at + 3]) * 0x100_0000
+    bytes
+        .iter()
+        .rev()
+        .fold(0, |sum, byte| sum << 8 | u64::from(*byte))
 }
 
-fn read_u64(s: &[u8], at: usize) -> u64
-    requires { at + 8 ≤ length s.now }
-    ensures { result ≡ num_at 8 at s.now }
-{
-    widen(s[at])
-        + widen(s[at + 1]) * 0x100
-        + widen(s[at + 2]) * 0x1_0000
-        + widen(s[at + 3]) * 0x100_0000
-        + widen(s[at + 4]) * 0x1_0000_0000
-        + widen(s[at + 5]) * 0x100_0000_0000
-        + widen(s[at + 6]) * 0x1_0000_0000_0000
-        + widen(s[at + 7]) * 0x100_0000_0000_0000
-}
-
-// The word at `at` if the slice has at most 7 bytes from there on. Bytes past the end count as 0.
-fn read_tail(s: &[u8], at: usize) -> u64
-    requires { (at ≤ length s.now) × (length s.now < at + 8) }
+// The word at `at` if the slice has at most 7 bytes from there on.
+fn tail_at(s: &[u8], at: usize) -> u64
+    requires { length s.now < at + 8 }
     ensures { result ≡ word_at at s.now }
 {
-    let mut sum: u64 = 0;
-    let mut i = s.len();
-    while at < i {
-        i -= 1;
-        sum = read_u8(s, i) + sum * 0x100;
+    match s.get(at..) {
+        Some(rest) => number(rest),
+        None => 0,
     }
-    sum
 }
 
 // The word (8 bytes) at `at`. Bytes past the end count as 0 (PG5).
 pub fn word_at(s: &[u8], at: usize) -> u64
     ensures { result ≡ word_at at s.now }
 {
-    if s.len() < at {
-        return 0;
+    match chunk_at(s, at) {
+        Some(word) => u64::from_le_bytes(*word),
+        None => tail_at(s, at),
     }
-    if s.len() - at < 8 {
-        return read_tail(s, at);
-    }
-    read_u64(s, at)
 }
 
 // The word at `at`, or 0 if its 8 bytes are not all in the slice. Loops over entries use it: with no case for a partial word, the compiler
@@ -96,133 +75,77 @@ pub fn word_at(s: &[u8], at: usize) -> u64
 pub fn whole_word(s: &[u8], at: usize) -> u64
     ensures { result ≡ whole_word at s.now }
 {
-    if s.len() < at {
-        return 0;
+    match chunk_at(s, at) {
+        Some(word) => u64::from_le_bytes(*word),
+        None => 0,
     }
-    if s.len() - at < 8 {
-        return 0;
-    }
-    read_u64(s, at)
 }
 
 // The half (4 bytes) at `at`. Bytes past the end count as 0 (PG5).
 pub fn u32_at(s: &[u8], at: usize) -> u64
     ensures { result ≡ u32_at at s.now }
 {
-    if s.len() < at {
-        return 0;
+    match chunk_at(s, at) {
+        Some(half) => u64::from(u32::from_le_bytes(*half)),
+        None => tail_at(s, at),
     }
-    if s.len() - at < 4 {
-        return read_tail(s, at);
-    }
-    read_u32(s, at)
 }
 
 // The byte at `at`; 0 past the end.
 pub fn byte_at(s: &[u8], at: usize) -> u8
     ensures { result ≡ get_or s.now at 0 }
 {
-    if s.len() <= at {
-        return 0;
-    }
-    s[at]
+    s.get(at).copied().unwrap_or(0)
 }
 
 // The two-byte number at `at`. Bytes past the end count as 0.
 pub fn u16_at(s: &[u8], at: usize) -> u64
     ensures { (result ≡ num_at 2 at s.now) × (result < 0x1_0000) }
 {
-    if s.len() <= at {
-        return 0;
+    match chunk_at(s, at) {
+        Some(pair) => u64::from(u16::from_le_bytes(*pair)),
+        None => u64::from(byte_at(s, at)),
     }
-    widen(s[at]) + widen(byte_at(s, at + 1)) * 0x100
 }
 
-// Writes the low 1, 2, 4 or 8 bytes of `w` at `at`.
-fn write_u8(s: &mut [u8], at: usize, w: u64)
-    requires { at + 1 ≤ length s.old }
-    ensures { s.new ≡ splice at (le_bytes 1 w) s.old }
+// Writes `bytes` at `at`. If they do not all fit, no byte changes (PG5).
+pub fn put(s: &mut [u8], at: usize, bytes: &[u8])
+    ensures { s.new ≡ laid at bytes.now s.old }
 {
-    s[at] = (w % 0x100) as u8;
-}
-
-fn write_u16(s: &mut [u8], at: usize, w: u64)
-    requires { at + 2 ≤ length s.old }
-    ensures { s.new ≡ splice at (le_bytes 2 w) s.old }
-{
-    write_u8(s, at, w);
-    write_u8(s, at + 1, w / 0x100);
-}
-
-fn write_u32(s: &mut [u8], at: usize, w: u64)
-    requires { at + 4 ≤ length s.old }
-    ensures { s.new ≡ splice at (le_bytes 4 w) s.old }
-{
-    write_u16(s, at, w);
-    write_u16(s, at + 2, w / 0x1_0000);
-}
-
-fn write_u64(s: &mut [u8], at: usize, w: u64)
-    requires { at + 8 ≤ length s.old }
-    ensures { s.new ≡ splice at (le_bytes 8 w) s.old }
-{
-    write_u32(s, at, w);
-    write_u32(s, at + 4, w / 0x1_0000_0000);
+    if at <= s.len() && bytes.len() <= s.len() - at {
+        s[at..at + bytes.len()].copy_from_slice(bytes);
+    }
 }
 
 // Writes the 8 bytes of `w` at `at`. If they do not all fit, no byte changes (PG5).
 pub fn put_word(s: &mut [u8], at: usize, w: u64)
     ensures { s.new ≡ laid at (le_bytes 8 w) s.old }
 {
-    if s.len() < 8 {
-        return;
-    }
-    if s.len() - 8 < at {
-        return;
-    }
-    write_u64(s, at, w);
+    put(s, at, &w.to_le_bytes());
 }
 
 // Writes the low 4 bytes of `w` at `at`. If they do not all fit, no byte changes (PG5).
 pub fn put_u32(s: &mut [u8], at: usize, w: u64)
     ensures { s.new ≡ laid at (le_bytes 4 w) s.old }
 {
-    if s.len() < 4 {
-        return;
-    }
-    if s.len() - 4 < at {
-        return;
-    }
-    write_u32(s, at, w);
+    put(s, at, &w.to_le_bytes()[..4]);
 }
 
 // Writes the low 2 bytes of `w` at `at`. If they do not all fit, no byte changes (PG5).
 pub fn put_u16(s: &mut [u8], at: usize, w: u64)
     ensures { s.new ≡ laid at (le_bytes 2 w) s.old }
 {
-    if s.len() < 2 {
-        return;
-    }
-    if s.len() - 2 < at {
-        return;
-    }
-    write_u16(s, at, w);
+    put(s, at, &w.to_le_bytes()[..2]);
 }
 
 // Writes all of `words`, one after another, from `at` on. If they do not all fit, no byte changes.
 pub fn put_words(s: &mut [u8], at: usize, words: &[u64])
     ensures { s.new ≡ laid at (bytes_of words.now) s.old }
 {
-    if s.len() < at {
-        return;
-    }
-    if (s.len() - at) / 8 < words.len() {
-        return;
-    }
-    let mut to = at;
-    for i in 0..words.len() {
-        write_u64(s, to, words[i]);
-        to += 8;
+    if at <= s.len() && words.len() <= (s.len() - at) / 8 {
+        for (i, word) in words.iter().enumerate() {
+            put_word(s, at + 8 * i, *word);
+        }
     }
 }
 
@@ -230,36 +153,21 @@ pub fn put_words(s: &mut [u8], at: usize, words: &[u64])
 pub fn clear(s: &mut [u8])
     ensures { s.new ≡ replicate (length s.old) 0 }
 {
-    for i in 0..s.len() {
-        s[i] = 0;
-    }
+    s.fill(0);
 }
 
-// Copies all of `from` to the start of `to`. If `to` is shorter, no byte changes. Copies 8 bytes a turn: one load and one store on a
-// processor with unaligned access, and fewer turns on any other.
+// Copies all of `from` to the start of `to`. If `to` is shorter, no byte changes.
 pub fn copy(to: &mut [u8], from: &[u8])
     ensures { to.new ≡ laid 0 from.now to.old }
 {
-    if to.len() < from.len() {
-        return;
-    }
-    let whole = from.len() / 8;
-    for k in 0..whole {
-        write_u64(to, 8 * k, read_u64(from, 8 * k));
-    }
-    for i in 8 * whole..from.len() {
-        to[i] = from[i];
-    }
+    put(to, 0, from);
 }
 
 // min(a, b).
 pub fn smaller(a: u64, b: u64) -> u64
     ensures { result ≡ min a b }
 {
-    if a < b {
-        return a;
-    }
-    b
+    a.min(b)
 }
 
 // The span of `len` bytes at `at`. An empty span is at 0.
@@ -267,9 +175,10 @@ pub fn span_at(at: usize, len: usize) -> Span
     ensures { result ≡ span_at at len }
 {
     if len == 0 {
-        return Span { at: 0, len: 0 };
+        Span { at: 0, len: 0 }
+    } else {
+        Span { at, len }
     }
-    Span { at, len }
 }
 
 // The bytes of `s` in `span`, as a part of `s` itself. If `span` is not within `s`, an empty part at the start of `s`.
@@ -277,14 +186,8 @@ pub fn part_of(s: &[u8], span: Span) -> &[u8]
     ensures result_value { result.now ≡ spanned span s.now }
     ensures ref_ptr_value { result.ref_ptr ≡ on_from s.entry.ref_ptr (span_start span s.now) }
 {
-    let at = span.at;
-    let len = span.len;
-    if s.len() < at {
-        return &s[0..0];
+    if s.len() < span.at || s.len() - span.at < span.len {
+        return &s[..0];
     }
-    if s.len() - at < len {
-        return &s[0..0];
-    }
-    let end = at + len;
-    &s[at..end]
+    &s[span.at..span.at + span.len]
 }

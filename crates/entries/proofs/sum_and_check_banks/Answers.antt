@@ -28,7 +28,7 @@ loop-i-preserved c =
       search rules,
       search rules,
       sum-bank a.page.now a.at l.from l.i (8 * (2 * a.count)) l.sum _ _ _ _ (omega arith)
-          l.invariant.1 l.invariant.2 x y c.wrapping_add_u64-sum.ensures.value c.wrapping_add_u64-sum-in-loop-i.ensures.value,
+          l.invariant.1 l.invariant.2 x y refl refl,
       bank-step a.minor a.at l.i a.page.now _ a.k _ _ c.requires.0 (rw l.invariant.1 at x)
           (rw l.invariant.1 at y) (c.with_bank-bits.ensures ∙ ap
           (λ z. both z (bank_ok c.whole_word-base.result

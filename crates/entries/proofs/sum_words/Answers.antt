@@ -17,8 +17,8 @@ loop-i-preserved c =
       search rules,
       search rules,
       sum_step _ _ l.from _ _ _ _ _ (omega arith) l.invariant.1 l.invariant.2
-          (c.whole_word.ensures ∙ word-lent l.from 8 0 l.from p (omega arith) (omega arith) (omega arith))
-          c.wrapping_add_u64-sum.ensures.value,
+          (c.whole_word-sum.ensures ∙ word-lent l.from 8 0 l.from p (omega arith) (omega arith) (omega arith))
+          refl,
     )
 
 pub returns : goal.returns

@@ -1,42 +1,29 @@
-use Rattle.versions.specs.Version.{minor_of, major_of, above_of, version_ok}
+use Rattle.std.proofs.Common.{◌≡◌, ◌/◌, ◌^◌, ◌∙◌, sym, rules, true, false, eqb}
+use mathlib.Core.Bool.{false≢true}
+use borrow.Author.Tests.{eq-eqb, ne_eqb}
 use Rattle.words.specs.Tests.{both}
-use Prim.Native.Nat.{◌/◌, ◌^◌}
-use borrow.Author.Tests.{eq-eqb, ne_eqb, lt-leb, le-leb}
-use borrow.Author.Rules.{rules}
-use native.Mathlib.Omega.{arith}
-use mathlib.Core.Path.{◌∙◌}
+use Rattle.versions.specs.Version.{minor_of, major_of, above_of, version_ok}
 use Rattle.versions.proofs.is_accepted.Goals as goal
+use Rattle.versions.proofs.is_accepted.Goals.{then-version-eq0, else-version-eq0}
 
-pub returns-then-version-ne0 : goal.returns-then-version-ne0
+pub returns-then-major-eq0 : goal.returns-then-major-eq0
 unfolding version_ok above_of both
-returns-then-version-ne0 c = let a = c.args in simp (ne_eqb (a.version / 2 ^ 31) 0 (search rules))
+returns-then-major-eq0 c =
+    let v = c.args.version in
+    elim c.if-version-eq0.branch [
+      then-version-eq0 w ↦
+          let m : eqb (major_of v) 0 ≡ true = rw (← w.major.ensures.0) (sym w.value-is ∙ c.if-major-eq0.true) in
+          rw (eq-eqb (v / 2 ^ 31) 0 w.if-version-eq0.true, m, ← c.minor.ensures.0)
+    | else-version-eq0 w ↦ absurd (false≢true (sym (ne_eqb (v / 2 ^ 31) 0 w.if-version-eq0.false) ∙ sym w.value-is ∙ c.if-major-eq0.true))
+    ]
 
-pub returns-then-major-ne0 : goal.returns-then-major-ne0
+pub returns-else-major-eq0 : goal.returns-else-major-eq0
 unfolding version_ok above_of both
-returns-then-major-ne0 c =
-    let a = c.args in
-    simp (
-      eq-eqb (a.version / 2 ^ 31) 0 (search rules),
-      ne_eqb (major_of a.version) 0
-          (λ z. c.if-major-ne0.true (c.major.ensures.0 ∙ z)),
-    )
-
-pub returns-then-minor-lt1 : goal.returns-then-minor-lt1
-unfolding version_ok above_of both
-returns-then-minor-lt1 c =
-    let a = c.args in
-    simp (
-      eq-eqb (a.version / 2 ^ 31) 0 (search rules),
-      eq-eqb (major_of a.version) 0 (omega arith),
-      lt-leb 1 (minor_of a.version) (omega arith),
-    )
-
-pub returns : goal.returns
-unfolding version_ok above_of both
-returns c =
-    let a = c.args in
-    simp (
-      eq-eqb (a.version / 2 ^ 31) 0 (search rules),
-      eq-eqb (major_of a.version) 0 (omega arith),
-      le-leb 1 (minor_of a.version) (omega arith),
-    )
+returns-else-major-eq0 c =
+    let v = c.args.version in
+    elim c.if-version-eq0.branch [
+      then-version-eq0 w ↦
+          let m : eqb (major_of v) 0 ≡ false = rw (← w.major.ensures.0) (sym w.value-is ∙ c.if-major-eq0.false) in
+          rw (eq-eqb (v / 2 ^ 31) 0 w.if-version-eq0.true, m) c.if-major-eq0.false
+    | else-version-eq0 w ↦ let n = ne_eqb (v / 2 ^ 31) 0 w.if-version-eq0.false in rw n (w.value-is ∙ n)
+    ]

@@ -1,15 +1,9 @@
-use Rattle.words.proofs.Store.{put_in, put-out}
-use native.Mathlib.Omega.{arith}
-use mathlib.Core.Path.{sym, ◌∙◌}
+use Rattle.std.proofs.Common.{◌∙◌, ap, List, ℕ, take}
+use Rattle.words.specs.Word.{laid}
+use Rattle.words.proofs.Read.{bytes-of_2}
 use Rattle.words.proofs.put_u16.Goals as goal
-
-pub returns-then-s-lt2 : goal.returns-then-s-lt2
-returns-then-s-lt2 c = let a = c.args in sym (put-out 2 a.at a.w a.s.now (omega arith))
-
-pub returns-then-s-at : goal.returns-then-s-at
-returns-then-s-at c = let a = c.args in sym (put-out 2 a.at a.w a.s.now (omega arith))
 
 pub returns : goal.returns
 returns c =
     let a = c.args in
-    c.write_u16.ensures ∙ sym (put_in 2 a.at a.w a.s.now (omega arith))
+    c.put.ensures ∙ ap (λ (bs : List ℕ). laid a.at bs a.s.now) (ap (λ (bs : List ℕ). take 2 bs) c.to_le_bytes.ensures ∙ bytes-of_2 a.w)

@@ -7,6 +7,6 @@ pub returns-then-len-eq0 : goal.returns-then-len-eq0
 unfolding span_at no_span
 returns-then-len-eq0 c = simp (eq-eqb c.args.len 0 (search rules))
 
-pub returns : goal.returns
+pub returns-else-len-eq0 : goal.returns-else-len-eq0
 unfolding span_at
-returns c = simp (ne_eqb c.args.len 0 (search rules))
+returns-else-len-eq0 c = simp (ne_eqb c.args.len 0 (search rules))

@@ -1,12 +1,12 @@
-use Rattle.words.proofs.Read.{num-out, num-short}
-use native.Mathlib.Omega.{arith}
-use mathlib.Core.Path.{sym, ◌∙◌}
-use borrow.Author.Rules.{rules}
+use Rattle.std.proofs.Common.{◌∙◌, arith}
+use Rattle.words.proofs.Read.{num-chunk, num-short}
 use Rattle.words.proofs.u32_at.Goals as goal
 
-pub returns-then-s-at : goal.returns-then-s-at
-returns-then-s-at c = let a = c.args in sym (num-out 4 a.at a.s.now (search rules))
+pub returns-in-Some : goal.returns-in-Some
+returns-in-Some c = c.from.ensures ∙ num-chunk 3 c.args.at _ c.args.s.now c.in-Some.ensures.1 c.from_le_bytes.ensures
 
-pub returns-then-s-at-lt4 : goal.returns-then-s-at-lt4
-returns-then-s-at-lt4 c =
-    let a = c.args in c.read_tail.ensures ∙ num-short 8 4 a.at a.s.now (omega arith) (omega arith)
+pub returns-in-None : goal.returns-in-None
+returns-in-None c =
+    let a = c.args in
+    let h = c.in-None.ensures in
+    c.tail_at.ensures ∙ num-short 8 4 a.at a.s.now (omega arith) (omega arith)

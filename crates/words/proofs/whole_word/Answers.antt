@@ -1,24 +1,17 @@
-use Prim.Native.Nat.{◌+◌}
-use lib.ListN.{length}
-use native.Mathlib.Omega.{arith}
+use Rattle.std.proofs.Common.{◌+◌, length, arith}
 use borrow.Author.Tests.{le-leb, lt-leb}
 use Rattle.words.specs.Fast.{whole_word}
+use Rattle.words.proofs.Read.{num-chunk}
 use Rattle.words.proofs.whole_word.Goals as goal
 
-pub returns-then-s-at : goal.returns-then-s-at
+pub returns-in-Some : goal.returns-in-Some
 unfolding whole_word
-returns-then-s-at c =
+returns-in-Some c =
     let a = c.args in
-    simp (lt-leb (a.at + 8) (length a.s.now) (omega arith))
+    simp (le-leb (a.at + 8) (length a.s.now) (omega (arith, c.in-Some.ensures.0))) (num-chunk 7 a.at _ a.s.now c.in-Some.ensures.1 c.from_le_bytes.ensures)
 
-pub returns-then-s-at-lt8 : goal.returns-then-s-at-lt8
+pub returns-in-None : goal.returns-in-None
 unfolding whole_word
-returns-then-s-at-lt8 c =
+returns-in-None c =
     let a = c.args in
-    simp (lt-leb (a.at + 8) (length a.s.now) (omega arith))
-
-pub returns : goal.returns
-unfolding whole_word
-returns c =
-    let a = c.args in
-    simp (le-leb (a.at + 8) (length a.s.now) (omega arith), c.read_u64.ensures)
+    simp (lt-leb (a.at + 8) (length a.s.now) (omega (arith, c.in-None.ensures)))

@@ -19,7 +19,4 @@ returns-in-0 c = let a = c.args in (rw (section-count-first a.self.minor (search
 
 pub returns-in_default : goal.returns-in_default
 unfolding core
-returns-in_default c =
-    let a = c.args in
-    let p = c.in_default.in_default-own.rest.0.1 in
-    let q = c.in_default.in_default-own.rest.1 in (rw (section-count-last a.self.minor (omega arith)), search rules)
+returns-in_default c = let a = c.args in (rw (section-count-last a.self.minor (omega arith)), search rules)

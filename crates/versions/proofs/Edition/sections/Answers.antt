@@ -17,7 +17,4 @@ pub returns-in-0 : goal.returns-in-0
 returns-in-0 c = let a = c.args in (rw (section-count-first a.self.minor (search rules)), search rules)
 
 pub returns-in_default : goal.returns-in_default
-returns-in_default c =
-    let a = c.args in
-    let p = c.in_default.in_default-own.rest.0.1 in
-    let q = c.in_default.in_default-own.rest.1 in (rw (section-count-last a.self.minor (omega arith)), search rules)
+returns-in_default c = let a = c.args in (rw (section-count-last a.self.minor (omega arith)), search rules)
