@@ -5,8 +5,7 @@ use Rattle.words.specs.Word.{word_at}
 use Rattle.versions.specs.Version.{minor_of, version_ok}
 use Rattle.versions.specs.Edition.{section_count, edition_ok}
 use Rattle.fields.specs.Fields.{taken}
-use Rattle.fields.specs.declared.FieldsEnd.{FieldsEnd}
-use Rattle.fields.specs.declared.FieldsEnd.TheVariants as fields_end
+use Rattle.std.proofs.Common.{Option, Some, None}
 use Rattle.sections.specs.Page.{place_ok, version_at, padding_at, page_platform, found_at, platform_at}
 use Rattle.sections.specs.Section.{platform_ok}
 use Rattle.sections.specs.Steps.{plat_end, ok_to, end_of}
@@ -29,8 +28,8 @@ module _ (w e base : ℕ) (page : List ℕ) (hp : place_ok base (length page) �
   unfolding rules_fault unless
   told-padding n = rw (← cd, ne_eqb d 0 n)
 
-  module _ (z : d ≡ 0) (q : ℕ) (cq : q ≡ word_at 8 page) (x : FieldsEnd)
-      (cx : x ≡ cond (place_ok base (length page)) (plat_end e base (platform_at base page)) fields_end.Broken) where
+  module _ (z : d ≡ 0) (q : ℕ) (cq : q ≡ word_at 8 page) (x : Option ℕ)
+      (cx : x ≡ cond (place_ok base (length page)) (plat_end e base (platform_at base page)) None) where
     is-end : x ≡ plat_end e base (platform_at base page)
     is-end = cx ∙ rw hp
 
@@ -42,12 +41,12 @@ module _ (w e base : ℕ) (page : List ℕ) (hp : place_ok base (length page) �
     unfolding rules_fault unless
     from-plat = rw (← cd, eq-eqb d 0 z, ← cq)
 
-    pub told-plat : x ≡ fields_end.Broken → (r : Diagnosis) → r ≡ plat_fault e base q page → r ≡ rules_fault w e base page
+    pub told-plat : x ≡ None → (r : Diagnosis) → r ≡ plat_fault e base q page → r ≡ rules_fault w e base page
     unfolding platform_at
     told-plat h r c =
         c ∙ sym (or-not _ _ (plat-clear e base q page ∙ rw cq (plat-broken e base (platform_at base page) (sym h ∙ is-end)))) ∙ sym from-plat
 
-    module _ (m : ℕ) (h : x ≡ fields_end.Ended m) where
+    module _ (m : ℕ) (h : x ≡ Some m) where
       is-plat : (platform_ok e base (page_platform q (found_at base page q)) ≡ true) × (m ≡ taken (found_at base page q))
       unfolding platform_at page_platform
       is-plat = rw cq (plat-ended e base (platform_at base page) m (sym h ∙ is-end))

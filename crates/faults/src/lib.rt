@@ -15,7 +15,7 @@ ghost use Rattle.faults.specs.Faults.{mk_fault, first_fault, first_of, bank_faul
 ghost use Rattle.faults.specs.declared.Diagnosis.TheVariants.{At};
 ghost use Rattle.faults.specs.declared.Rule.TheVariants.{FieldsOverlap};
 
-use fields::{FieldsEnd, Seen};
+use fields::Seen;
 use versions::Edition;
 
 // The rules in the order of the checks, P1 to F5. The code is -5 for the first two, -6 for the next two and -7 for all others.
@@ -404,7 +404,7 @@ fn field_fault(
     if !fields::length_ok(tag, len) {
         return field_found(Rule::FieldLength, i, offset, tag, len);
     }
-    if fields::is_seen(seen, tag) {
+    if seen.has(tag) {
         return field_found(Rule::FieldTwice, i, offset, tag, len);
     }
     Diagnosis::Clear
@@ -415,7 +415,7 @@ fn fields_fault(part: &[u8], from: usize) -> Diagnosis
     requires { (from ≤ 0x1000) × (length part.now ≤ 0x1000) }
     ensures { result ≡ fields_fault from part.now }
 {
-    let mut seen = fields::none_seen();
+    let mut seen = Seen::none();
     let mut at = 0;
     for i in 0..part.len() {
         let tag = words::byte_at(part, at);
@@ -427,7 +427,7 @@ fn fields_fault(part: &[u8], from: usize) -> Diagnosis
         if tag == 0 {
             return Diagnosis::Clear;
         }
-        seen = fields::marked(seen, tag);
+        seen = seen.with(tag);
         at = at + 3 + len;
     }
     field_found(
@@ -480,8 +480,7 @@ fn rules_fault(page: &[u8], base: u64, minor: u64, e: Edition) -> Diagnosis
         return found_at(Rule::Padding, 0, 0, 4, padding, 0);
     }
     let plat = words::word_at(page, sections::CORE_PLAT_DATA);
-    let end = sections::plat_rule(page, base, e);
-    let FieldsEnd::Ended(taken) = end else {
+    let Some(taken) = sections::plat_rule(page, base, e) else {
         return plat_fault(page, base, e, plat);
     };
     let n = e.sections();

@@ -14,10 +14,9 @@ use Rattle.words.proofs.Tests.{same_test}
 use Rattle.fields.specs.Fields.{Field, Scanned, broken, ended, bare, scan_of, fields_in, is_ended, FieldShown, raw, withdrawn, shown_fields}
 use Rattle.fields.specs.Steps.{fields_from, end_told, step_at}
 use Rattle.fields.specs.declared.FieldPlace.{FieldPlace}
-use Rattle.fields.specs.declared.FieldPlace.TheVariants.{Raw, Withdrawn, Nothing}
+use Rattle.fields.specs.declared.FieldPlace.TheVariants.{Raw, Withdrawn}
 use Rattle.fields.specs.declared.FieldStep.{FieldStep}
-use Rattle.fields.specs.declared.FieldsEnd.{FieldsEnd}
-use Rattle.fields.specs.declared.FieldsEnd.TheVariants as fields_end
+use Rattle.std.proofs.Common.{Option, Some, None, is_none}
 use Rattle.fields.proofs.Scans.{never}
 use Rattle.fields.proofs.Rules.{no_test}
 use Rattle.fields.proofs.Stops.{told-out}
@@ -29,7 +28,7 @@ use Rattle.reader.specs.declared.View.{View}
 use Rattle.reader.specs.declared.Reading.TheVariants.{Accepted}
 use Rattle.field_lookup.specs.Fields.{no_field, field, first_in, rest_in, nth_in, shown_tag, shown_value, of_tag, value_in, field_as}
 use Rattle.field_lookup.specs.Fields.{place_span}
-use Rattle.field_lookup.specs.Steps.{shown_from, start_at, place_nth, search_ends, place_tagged, nth_place, tag_place, is_nothing}
+use Rattle.field_lookup.specs.Steps.{shown_from, start_at, place_nth, search_ends, place_tagged, nth_place, tag_place, place_tag}
 
 -- ---- the fields of a view
 pub view_fields : (page : List ℕ) (v : View) → fields_shown (reading_answer page (Accepted v)) ≡ shown_fields
@@ -49,13 +48,13 @@ fields-some : (q : ℕ) (page : List ℕ) → (q ≡ 0 → ⊥) → fields_of q 
 unfolding fields_of
 fields-some q page z = rw (ne_eqb q 0 z)
 
-told-not : (s : Scanned) → end_told s ≡ fields_end.Broken → is_ended s ≡ false
+told-not : (s : Scanned) → end_told s ≡ None → is_ended s ≡ false
 unfolding end_told is_ended
 told-not broken h = refl
 told-not (ended fs n) h = never (cc)
 told-not (bare fs) h = refl
 
-told-yes : (s : Scanned) (n : ℕ) → end_told s ≡ fields_end.Ended n → is_ended s ≡ true
+told-yes : (s : Scanned) (n : ℕ) → end_told s ≡ Some n → is_ended s ≡ true
 unfolding end_told is_ended
 told-yes broken n h = never (cc)
 told-yes (ended fs m) n h = refl
@@ -67,25 +66,25 @@ module _ (page : List ℕ) (v : View) where
   unfolding start_at
   start_none z = rw (eq-eqb v.plat 0 z)
 
-  pub start-broken : (v.plat ≡ 0 → ⊥) → end_told (scan_of (drop (v.plat % 4096) page)) ≡ fields_end.Broken →
+  pub start-broken : (v.plat ≡ 0 → ⊥) → end_told (scan_of (drop (v.plat % 4096) page)) ≡ None →
       length page ≡ start_at v.plat page
   unfolding start_at
   start-broken z h = rw (ne_eqb v.plat 0 z, told-not (scan_of (drop (v.plat % 4096) page)) h)
 
-  pub start-there : (v.plat ≡ 0 → ⊥) → (n : ℕ) → end_told (scan_of (drop (v.plat % 4096) page)) ≡ fields_end.Ended n →
+  pub start-there : (v.plat ≡ 0 → ⊥) → (n : ℕ) → end_told (scan_of (drop (v.plat % 4096) page)) ≡ Some n →
       v.plat % 4096 ≡ start_at v.plat page
   unfolding start_at
   start-there z n h = rw (ne_eqb v.plat 0 z, told-yes (scan_of (drop (v.plat % 4096) page)) n h)
 
-  by-told : (v.plat ≡ 0 → ⊥) → (d : FieldsEnd) → end_told (scan_of (drop (v.plat % 4096) page)) ≡ d →
+  by-told : (v.plat ≡ 0 → ⊥) → (d : Option ℕ) → end_told (scan_of (drop (v.plat % 4096) page)) ≡ d →
       shown_from (start_at v.plat page) page ≡ fields_shown (reading_answer page (Accepted v))
   unfolding shown_from
-  by-told z fields_end.Broken h =
+  by-told z None h =
       rw (← start-broken z h)
       (no_fields page v (fields_from (length page) page)
       (ap fields_in (fields-some v.plat page z) ∙ none_told (scan_of (drop (v.plat % 4096) page)) h ∙
       sym (from_out (length page) page (omega arith))))
-  by-told z (fields_end.Ended n) h =
+  by-told z (Some n) h =
       rw (← start-there z n h)
       (no_fields page v (fields_from (v.plat % 4096) page) (ap fields_in (fields-some v.plat page z) ∙
       sym (from_told (v.plat % 4096) page n h)))
@@ -150,25 +149,25 @@ stepped at page s h = (
 )
 
 -- the field that is shown at a place
-unfoldable pub place_shown : FieldPlace → List ℕ → FieldShown
-place_shown (Raw t at n) page = raw t (part at n page)
-place_shown Withdrawn page = withdrawn
-place_shown Nothing page = withdrawn
+unfoldable pub place_shown : Option FieldPlace → List ℕ → FieldShown
+place_shown (Some (Raw t at n)) page = raw t (part at n page)
+place_shown (Some Withdrawn) page = withdrawn
+place_shown None page = withdrawn
 
 -- a field at the cursor is the first of those left
-some-by : (at : ℕ) (page : List ℕ) → is_nothing (step_at at page).field ≡ false →
+some-by : (at : ℕ) (page : List ℕ) → is_none (step_at at page).field ≡ false →
     (field_as (step_at at page).field page ≡ field (place_shown (step_at at page).field page))
     × (shown_from at page ≡ place_shown (step_at at page).field page ∷ shown_from (step_at at page).next page)
-unfolding is_nothing field_as place_shown shown_from
+unfolding field_as place_shown shown_from
 some-by at page =
-    step-cases at page (λ s. is_nothing s.field ≡ false →
+    step-cases at page (λ s. is_none s.field ≡ false →
     (field_as s.field page ≡ field (place_shown s.field page)) ×
     (shown_from at page ≡ place_shown s.field page ∷ shown_from s.next page))
     (λ h n. absurd (false≢true (sym n)))
     (λ x l r h n. (refl, h))
     (λ t v m x r n. (rw (le-leb (v + m) (length page) (omega (arith, r.next, r.within))), r.shown))
 
-module _ (at : ℕ) (page : List ℕ) (h : is_nothing (step_at at page).field ≡ false) where
+module _ (at : ℕ) (page : List ℕ) (h : is_none (step_at at page).field ≡ false) where
   pub step-some : shown_from at page ≡ place_shown (step_at at page).field page ∷ shown_from (step_at at page).next page
   step-some = (some-by at page h).1
 
@@ -185,33 +184,31 @@ unfolding first_in
 first-none [] h = refl
 first-none (f ∷ fs) h = never (cc)
 
-nothing_is : (f : FieldPlace) → is_nothing f ≡ true → f ≡ Nothing
-unfolding is_nothing
-nothing_is (Raw t v m) h = absurd (false≢true h)
-nothing_is Withdrawn h = absurd (false≢true h)
-nothing_is Nothing h = refl
+nothing_is : (f : Option FieldPlace) → is_none f ≡ true → f ≡ None
+nothing_is (Some f) h = absurd (false≢true h)
+nothing_is None h = refl
 
-pub step-none : (at : ℕ) (page : List ℕ) → is_nothing (step_at at page).field ≡ true → shown_from at page ≡ []
+pub step-none : (at : ℕ) (page : List ℕ) → is_none (step_at at page).field ≡ true → shown_from at page ≡ []
 unfolding field_as
 step-none at page h = first-none (shown_from at page) (sym (ap (λ f. field_as f page) (nothing_is _ h)) ∙ (step-shown at page).0)
 
 -- ---- field i, for the loop
-none-step : (at : ℕ) (page : List ℕ) → shown_from at page ≡ [] → (step_at at page).field ≡ Nothing
+none-step : (at : ℕ) (page : List ℕ) → shown_from at page ≡ [] → (step_at at page).field ≡ None
 unfolding shown_from
 none-step at page =
-    step-cases at page (λ s. shown_from at page ≡ [] → s.field ≡ Nothing) (λ h n. refl) (λ x l r h n. never (let z = rw h at n in cc))
+    step-cases at page (λ s. shown_from at page ≡ [] → s.field ≡ None) (λ h n. refl) (λ x l r h n. never (let z = rw h at n in cc))
     (λ t v m x r n. never (let z = rw r.shown at n in cc))
 
-none-next : (at : ℕ) (page : List ℕ) → (step_at at page).field ≡ Nothing → (step_at (step_at at page).next page).field ≡ Nothing
-unfolding rest_in is_nothing
-none-next at page h = none-step (step_at at page).next page ((step-shown at page).1 ∙ ap rest_in (step-none at page (ap is_nothing h)))
+none-next : (at : ℕ) (page : List ℕ) → (step_at at page).field ≡ None → (step_at (step_at at page).next page).field ≡ None
+unfolding rest_in
+none-next at page h = none-step (step_at at page).next page ((step-shown at page).1 ∙ ap rest_in (step-none at page (ap is_none h)))
 
-none-nth : (i at : ℕ) (page : List ℕ) → (step_at at page).field ≡ Nothing → Nothing ≡ place_nth i at page
+none-nth : (i at : ℕ) (page : List ℕ) → (step_at at page).field ≡ None → None ≡ place_nth i at page
 unfolding place_nth
 none-nth zero at page h = sym h
 none-nth (suc i) at page h = none-nth i (step_at at page).next page (none-next at page h)
 
-pub nth-none : (i at : ℕ) (page : List ℕ) → is_nothing (step_at at page).field ≡ true → (step_at at page).field ≡ place_nth i at page
+pub nth-none : (i at : ℕ) (page : List ℕ) → is_none (step_at at page).field ≡ true → (step_at at page).field ≡ place_nth i at page
 nth-none i at page h = let e = nothing_is _ h in e ∙ none-nth i at page e
 
 pub nth_here : (i at : ℕ) (page : List ℕ) → i ≡ 0 → (step_at at page).field ≡ place_nth i at page
@@ -237,28 +234,28 @@ nth-place i v page = nth-shown i (start_at v.plat page) page ∙ ap (nth_in i) (
 pub eqb-sym : (m n : ℕ) → eqb m n ≡ eqb n m
 eqb-sym m n = same_test (eqb m n) (eqb n m) (λ h. eq-eqb n m (sym (eqb-true m n h))) (λ h. eq-eqb m n (sym (eqb-true n m h)))
 
-ends-none : (t : ℕ) (f : FieldPlace) → is_nothing f ≡ true → search_ends t f ≡ true
+ends-none : (t : ℕ) (f : Option FieldPlace) → is_none f ≡ true → search_ends t f ≡ true
 unfolding search_ends
 ends-none t f h = rw (nothing_is f h)
 
-ends-tag : (t : ℕ) (f : FieldPlace) (page : List ℕ) → is_nothing f ≡ false → search_ends t f ≡ eqb (shown_tag (place_shown f page)) t
-unfolding is_nothing search_ends place_shown shown_tag
-ends-tag t (Raw u v m) page h = refl
-ends-tag t Withdrawn page h = refl
-ends-tag t Nothing page h = absurd (false≢true (sym h))
+ends-tag : (t : ℕ) (f : Option FieldPlace) (page : List ℕ) → is_none f ≡ false → search_ends t f ≡ eqb (shown_tag (place_shown f page)) t
+unfolding search_ends place_tag place_shown shown_tag
+ends-tag t (Some (Raw u v m)) page h = refl
+ends-tag t (Some Withdrawn) page h = refl
+ends-tag t None page h = absurd (false≢true (sym h))
 
-pub goes_on : (t : ℕ) (f : FieldPlace) → search_ends t f ≡ false → is_nothing f ≡ false
-goes_on t f h = no_test (is_nothing f) (λ y. false≢true (sym h ∙ ends-none t f y))
+pub goes_on : (t : ℕ) (f : Option FieldPlace) → search_ends t f ≡ false → is_none f ≡ false
+goes_on t f h = no_test (is_none f) (λ y. false≢true (sym h ∙ ends-none t f y))
 
 module _ (t at : ℕ) (page : List ℕ) where
-  ends_by : (b : Bool) → is_nothing (step_at at page).field ≡ b → search_ends t (step_at at page).field ≡ true →
+  ends_by : (b : Bool) → is_none (step_at at page).field ≡ b → search_ends t (step_at at page).field ≡ true →
       (step_at at page).field ≡ place_tagged t (length (shown_from at page)) at page
   unfolding place_tagged
   ends_by true n h = rw (step-none at page n) (nothing_is _ n)
   ends_by false n h = rw (step-some at page n, h)
 
   pub tag-here : search_ends t (step_at at page).field ≡ true → (step_at at page).field ≡ place_tagged t (length (shown_from at page)) at page
-  tag-here h = ends_by (is_nothing (step_at at page).field) refl h
+  tag-here h = ends_by (is_none (step_at at page).field) refl h
 
   pub tag-later : search_ends t (step_at at page).field ≡ false →
       place_tagged t (length (shown_from (step_at at page).next page)) (step_at at page).next page ≡ place_tagged t
@@ -268,7 +265,7 @@ module _ (t at : ℕ) (page : List ℕ) where
 
 tag_one : (t at : ℕ) (page : List ℕ) → ((x : ℕ) → suc (length (shown_from x page)) ≡ length (shown_from at page) →
     field_as (place_tagged t (length (shown_from x page)) x page) page ≡ of_tag t (shown_from x page)) →
-    (b : Bool) → is_nothing (step_at at page).field ≡ b → field_as (place_tagged t (length (shown_from at page)) at page) page ≡ of_tag t
+    (b : Bool) → is_none (step_at at page).field ≡ b → field_as (place_tagged t (length (shown_from at page)) at page) page ≡ of_tag t
     (shown_from at page)
 unfolding field_as of_tag
 tag_one t at page ih true n = rw (← tag-here t at page (ends-none t _ n), nothing_is _ n, step-none at page n)
@@ -285,8 +282,8 @@ tag_one t at page ih false n = go (search_ends t (step_at at page).field) refl
 
 tag-shown : (n t at : ℕ) (page : List ℕ) → n ≡ length (shown_from at page) →
     field_as (place_tagged t (length (shown_from at page)) at page) page ≡ of_tag t (shown_from at page)
-tag-shown zero t at page h = tag_one t at page (λ x e. absurd (let z : ⊥ = omega arith in z)) (is_nothing (step_at at page).field) refl
-tag-shown (suc n) t at page h = tag_one t at page (λ x e. tag-shown n t x page (omega arith)) (is_nothing (step_at at page).field) refl
+tag-shown zero t at page h = tag_one t at page (λ x e. absurd (let z : ⊥ = omega arith in z)) (is_none (step_at at page).field) refl
+tag-shown (suc n) t at page h = tag_one t at page (λ x e. tag-shown n t x page (omega arith)) (is_none (step_at at page).field) refl
 
 pub tag-place : (t : ℕ) (v : View) (page : List ℕ) → field_as (tag_place t v page) page ≡ of_tag t
     (fields_shown (reading_answer page (Accepted v)))
@@ -300,8 +297,8 @@ unfolding value_in shown_value
 cond_value true t v = refl
 cond_value false t v = refl
 
-pub value_there : (f : FieldPlace) (page : List ℕ) → spanned (place_span f) page ≡ value_in (field_as f page)
+pub value_there : (f : Option FieldPlace) (page : List ℕ) → spanned (place_span f) page ≡ value_in (field_as f page)
 unfolding spanned place_span field_as part value_in shown_value
-value_there (Raw t at n) page = cond_value (leb (at + n) (length page)) t (part at n page)
-value_there Withdrawn page = rw leb-zero
-value_there Nothing page = rw leb-zero
+value_there (Some (Raw t at n)) page = cond_value (leb (at + n) (length page)) t (part at n page)
+value_there (Some Withdrawn) page = rw leb-zero
+value_there None page = rw leb-zero

@@ -1,11 +1,11 @@
 -- Lookups in the fields that a page shows (FD10): "The writer takes a list of fields", and a reader shows one in page order (request E7);
 -- "show the console choice as withdrawn without its value" (request E10). Assumes nothing.
-use Rattle.std.specs.Prelude.{ℕ, zero, suc, ◌+◌, cond, List, [], ◌∷◌, length, leb, eqb}
+use Rattle.std.specs.Prelude.{ℕ, zero, suc, ◌+◌, cond, List, [], ◌∷◌, length, leb, eqb, Option, Some, None}
 use Rattle.words.specs.Word.{part}
 use Rattle.words.specs.declared.Span.{Span}
 use Rattle.fields.specs.Fields.{FieldShown, raw, withdrawn}
 use Rattle.fields.specs.declared.FieldPlace.{FieldPlace}
-use Rattle.fields.specs.declared.FieldPlace.TheVariants.{Raw, Withdrawn, Nothing}
+use Rattle.fields.specs.declared.FieldPlace.TheVariants.{Raw, Withdrawn}
 
 -- the result of a lookup: a field, or no field (FD10)
 pub data Asked : Type 0 where
@@ -49,13 +49,13 @@ value_in (field f) = shown_value f
 
 -- ---- by place in the page
 -- the field at a place; no field if the place is not within the page
-unfoldable pub field_as : FieldPlace → List ℕ → Asked
-field_as (Raw t at n) page = cond (leb (at + n) (length page)) (field (raw t (part at n page))) no_field
-field_as Withdrawn page = field withdrawn
-field_as Nothing page = no_field
+unfoldable pub field_as : Option FieldPlace → List ℕ → Asked
+field_as (Some (Raw t at n)) page = cond (leb (at + n) (length page)) (field (raw t (part at n page))) no_field
+field_as (Some Withdrawn) page = field withdrawn
+field_as None page = no_field
 
 -- the span of a field's value; empty if the field is withdrawn or absent
-unfoldable pub place_span : FieldPlace → Span
-place_span (Raw t at n) = record { at = at; len = n }
-place_span Withdrawn = record { at = 0; len = 0 }
-place_span Nothing = record { at = 0; len = 0 }
+unfoldable pub place_span : Option FieldPlace → Span
+place_span (Some (Raw t at n)) = record { at = at; len = n }
+place_span (Some Withdrawn) = record { at = 0; len = 0 }
+place_span None = record { at = 0; len = 0 }

@@ -19,12 +19,12 @@ fn put_raw(out: &mut [u8], at: usize, tag: u8, value: &[u8]) -> usize
 }
 
 // Writes the line of a field with its value; nothing if there is no field.
-pub fn put_field(out: &mut [u8], at: usize, field: FieldPlace, value: &[u8]) -> usize
+pub fn put_field(out: &mut [u8], at: usize, field: Option<FieldPlace>, value: &[u8]) -> usize
     ensures { LaidOver at (place_text field value.now) out.old result out.new }
 {
     match field {
-        FieldPlace::Raw { tag, at: _, len: _ } => put_raw(out, at, tag, value),
-        FieldPlace::Withdrawn => text_lines::put(out, at, b"3 withdrawn\n"),
-        FieldPlace::Nothing => at,
+        Some(FieldPlace::Raw { tag, at: _, len: _ }) => put_raw(out, at, tag, value),
+        Some(FieldPlace::Withdrawn) => text_lines::put(out, at, b"3 withdrawn\n"),
+        None => at,
     }
 }

@@ -10,6 +10,7 @@ use borrow.Author.Tests.{lt-ltb, le-ltb}
 use Rattle.words.specs.Word.{num_at}
 use Rattle.fields.specs.Fields.{Scanned, broken, ended, bare, scan_all, scan_of, judged, is_ended}
 use Rattle.fields.specs.Steps.{head_of, head_at, allowed, seen_with, none_seen, stop_of}
+use Rattle.std.proofs.Common.{Option, Some, None}
 use Rattle.fields.specs.declared.Head.TheVariants as head
 use Rattle.fields.specs.declared.Seen.{Seen}
 use Rattle.fields.specs.declared.Stop.{Stop}
@@ -17,10 +18,10 @@ use Rattle.fields.specs.declared.Stop.TheVariants as stop
 use Rattle.fields.proofs.Rules.{ok_from}
 use Rattle.fields.proofs.Stops.{later, stop_at, stop-start, stop-edge, stop-broken, stop-mark, stop-not, stop-more}
 
-unfoldable is_mark : Stop → Bool
-is_mark stop.Broken = false
-is_mark (stop.Mark n m) = true
-is_mark (stop.Edge c) = false
+unfoldable is_mark : Option Stop → Bool
+is_mark None = false
+is_mark (Some (stop.Mark n m)) = true
+is_mark (Some (stop.Edge c)) = false
 
 mark-later : (k c : ℕ) (b : Bool) (r : Scanned) → is_mark (later k c b (stop_of r)) ≡ is_ended r
 unfolding is_mark later stop_of is_ended
@@ -51,7 +52,7 @@ ends-past at s bs h = ends-stop at 0 s bs ∙ ap is_mark (stop-edge at 0 s bs h)
 
 -- the field at an offset: t is its tag, m its length
 module _ (at : ℕ) (s : Seen) (bs : List ℕ) (h : at < length bs) (t m : ℕ) (ct : get_or bs at 0 ≡ t) (cm : num_at 2 (at + 1) bs ≡ m) where
-  ends-broken : head_at at bs ≡ head.Broken → ends_at at s bs ≡ false
+  ends-broken : head_at at bs ≡ None → ends_at at s bs ≡ false
   unfolding is_mark
   ends-broken e = ends-stop at 0 s bs ∙ ap is_mark (stop-broken at 0 s bs h e)
 
@@ -69,7 +70,7 @@ module _ (at : ℕ) (s : Seen) (bs : List ℕ) (h : at < length bs) (t m : ℕ) 
     ends-mark z e = ends-stop at 0 s bs ∙ ap is_mark (stop-mark at 0 s bs h (rw (ct, cm, le-ltb (length bs) (at + 3 + m) l, z, e)))
 
     module _ (z : eqb t 0 ≡ false) where
-      is_field : head_at at bs ≡ head.Field t (at + 3) m (at + 3 + m)
+      is_field : head_at at bs ≡ Some (head.Field t (at + 3) m (at + 3 + m))
       unfolding head_at head_of
       is_field = rw (ct, cm, le-ltb (length bs) (at + 3 + m) l, z)
 

@@ -2,7 +2,6 @@
 use Prim.Native.Nat.{ℕ, ◌+◌, ◌≤◌, ◌<◌}
 use mathlib.Core.Path.{◌≡◌, refl}
 use mathlib.Core.Bool.{Bool, true, false, cond}
-use mathlib.Core.Logic.{inl, inr}
 use mathlib.Core.List.{List, [], ◌∷◌}
 use native.Mathlib.Omega.{arith}
 use borrow.Author.Tests.{eq-eqb, ne_eqb}
@@ -11,29 +10,26 @@ use lib.Dec.{eqb}
 use Rattle.words.specs.Word.{part, num_at}
 use Rattle.fields.specs.Fields.{mk_field, raw, withdrawn, shown_field, shown_fields}
 use Rattle.fields.specs.Steps.{head_at, fields_from, field_place_of, field_step_of, step_at}
+use Rattle.std.proofs.Common.{Option, Some, None}
 use Rattle.fields.specs.declared.Head.{Head}
 use Rattle.fields.specs.declared.Head.TheVariants as head
-use Rattle.fields.specs.declared.FieldPlace.TheVariants.{Raw, Withdrawn, Nothing}
+use Rattle.fields.specs.declared.FieldPlace.TheVariants.{Raw, Withdrawn}
 use Rattle.fields.specs.declared.FieldStep.{FieldStep}
-use Rattle.fields.proofs.Scans.{head-room, head-told}
+use Rattle.fields.proofs.Scans.{never, NoField, head-room, head-told}
 use Rattle.fields.proofs.Walks.{from-stop, from_field}
 
 -- ---- by the head at the offset
-pub step-stop : (at : ℕ) (bs : List ℕ) (d : Head) → head_at at bs ≡ d → ((t v m x : ℕ) → d ≡ head.Field t v m x → ⊥) →
-    record { field = Nothing; next = length bs } ≡ step_at at bs
+pub step-stop : (at : ℕ) (bs : List ℕ) (d : Option Head) → head_at at bs ≡ d → NoField d →
+    record { field = None; next = length bs } ≡ step_at at bs
 unfolding step_at field_step_of
-step-stop at bs head.Broken e k = rw e
-step-stop at bs head.End e k = rw e
-step-stop at bs (head.Field t v m x) e k = absurd (k t v m x refl)
+step-stop at bs None e k = rw e
+step-stop at bs (Some head.End) e k = rw e
+step-stop at bs (Some (head.Field t v m x)) e k = absurd (k t v m x refl)
 
-module _ (at : ℕ) (bs : List ℕ) {t v m x : ℕ} (e : head_at at bs ≡ head.Field t v m x) where
-  pub step_field : (t ≡ 3 → ⊥) → record { field = Raw t v m; next = x } ≡ step_at at bs
-  unfolding step_at field_step_of field_place_of
-  step_field h = rw (e, ne_eqb t 3 h)
-
-  pub step-withdrawn : t ≡ 3 → record { field = Withdrawn; next = x } ≡ step_at at bs
-  unfolding step_at field_step_of field_place_of
-  step-withdrawn h = rw (e, eq-eqb t 3 h)
+pub step-there : (at : ℕ) (bs : List ℕ) {t v m x : ℕ} → head_at at bs ≡ Some (head.Field t v m x) →
+    record { field = Some (field_place_of t v m); next = x } ≡ step_at at bs
+unfolding step_at field_step_of
+step-there at bs e = rw e
 
 -- ---- by what is shown
 -- a field shown with its value: its tag and length are before the value, all of it is within the bytes, and the other shown fields are
@@ -48,17 +44,17 @@ pub record RawAt (at : ℕ) (bs : List ℕ) (t v m x : ℕ) : Type 0 where
 
 -- a step finds no field, the withdrawn field, or a field shown with its value
 module _ (at : ℕ) (bs : List ℕ) (P : FieldStep → Type 0)
-    (none : shown_fields (fields_from at bs) ≡ [] → P (record { field = Nothing; next = length bs }))
+    (none : shown_fields (fields_from at bs) ≡ [] → P (record { field = None; next = length bs }))
     (gone : (x : ℕ) → at < x → x ≤ length bs → shown_fields (fields_from at bs) ≡ withdrawn ∷ shown_fields (fields_from x bs) →
-    P (record { field = Withdrawn; next = x }))
-    (there : (t v m x : ℕ) → RawAt at bs t v m x → P (record { field = Raw t v m; next = x })) where
-  by-head : (d : Head) → head_at at bs ≡ d → P (field_step_of d (length bs))
+    P (record { field = Some Withdrawn; next = x }))
+    (there : (t v m x : ℕ) → RawAt at bs t v m x → P (record { field = Some (Raw t v m); next = x })) where
+  by-head : (d : Option Head) → head_at at bs ≡ d → P (field_step_of d (length bs))
   unfolding field_step_of field_place_of shown_fields shown_field mk_field
-  by-head head.Broken e = none (rw (from-stop at bs head.Broken e (inl refl)))
-  by-head head.End e = none (rw (from-stop at bs head.End e (inr refl)))
-  by-head (head.Field t v m x) e = go (eqb t 3) refl
+  by-head None e = none (rw (from-stop at bs None e (λ t v m x z. never (cc))))
+  by-head (Some head.End) e = none (rw (from-stop at bs (Some head.End) e (λ t v m x z. never (cc))))
+  by-head (Some (head.Field t v m x)) e = go (eqb t 3) refl
     where
-      go : (b : Bool) → eqb t 3 ≡ b → P (record { field = cond b Withdrawn (Raw t v m); next = x })
+      go : (b : Bool) → eqb t 3 ≡ b → P (record { field = Some (cond b Withdrawn (Raw t v m)); next = x })
       go true h = let r = head-room at bs e in gone x (omega arith) (omega arith) (rw (from_field at bs e, h))
       go false h =
           let r = head-room at bs e in

@@ -16,38 +16,37 @@ use Rattle.fields.specs.Fields.{lengths_ok, count, fields_in, is_bare, fields_de
 use Rattle.fields.specs.Steps.{head_at, allowed, seen_with, none_seen, stop_of, end_told}
 use Rattle.fields.specs.declared.Head.TheVariants as head
 use Rattle.fields.specs.declared.Seen.{Seen}
-use Rattle.fields.specs.declared.FieldsEnd.{FieldsEnd}
-use Rattle.fields.specs.declared.FieldsEnd.TheVariants as fields_end
+use Rattle.std.proofs.Common.{Option, Some, None}
 use Rattle.fields.specs.declared.Stop.{Stop}
 use Rattle.fields.specs.declared.Stop.TheVariants as stop
 use Rattle.fields.proofs.Scans.{follow, head-scan, head-room, part_length}
 use Rattle.fields.proofs.Rules.{ok_from, ok-start, ok-none, ok-not, ok-more, either-false}
 
 -- a stop counted from offset k, after c fields; b is whether tag 3 is among them
-unfoldable pub later : ℕ → ℕ → Bool → Stop → Stop
-later k c b stop.Broken = stop.Broken
-later k c b (stop.Mark n m) = stop.Mark (k + n) (c + m)
-later k c b (stop.Edge a) = stop.Edge (either b a)
+unfoldable pub later : ℕ → ℕ → Bool → Option Stop → Option Stop
+later k c b None = None
+later k c b (Some (stop.Mark n m)) = Some (stop.Mark (k + n) (c + m))
+later k c b (Some (stop.Edge a)) = Some (stop.Edge (either b a))
 
 -- where the pass stops from offset `at` on, after c fields with the tags s
-unfoldable pub stop_at : ℕ → ℕ → Seen → List ℕ → Stop
+unfoldable pub stop_at : ℕ → ℕ → Seen → List ℕ → Option Stop
 stop_at at c s bs = later at c s.console (stop_of (judged (ok_from s) (scan_all (drop at bs))))
 
 -- ---- what a stop means: for the reader the extent of the fields, for the writer that there is no mark and no tag 3
-unfoldable pub extent_of : Stop → FieldsEnd
-extent_of stop.Broken = fields_end.Broken
-extent_of (stop.Mark n m) = fields_end.Ended n
-extent_of (stop.Edge a) = fields_end.Broken
+unfoldable pub extent_of : Option Stop → Option ℕ
+extent_of None = None
+extent_of (Some (stop.Mark n m)) = Some n
+extent_of (Some (stop.Edge a)) = None
 
-unfoldable pub is_told : Stop → Bool
-is_told stop.Broken = false
-is_told (stop.Mark n m) = false
-is_told (stop.Edge a) = not a
+unfoldable pub is_told : Option Stop → Bool
+is_told None = false
+is_told (Some (stop.Mark n m)) = false
+is_told (Some (stop.Edge a)) = not a
 
-unfoldable pub passed_by : Stop → ℕ
-passed_by stop.Broken = 0
-passed_by (stop.Mark n m) = m
-passed_by (stop.Edge a) = 0
+unfoldable pub passed_by : Option Stop → ℕ
+passed_by None = 0
+passed_by (Some (stop.Mark n m)) = m
+passed_by (Some (stop.Edge a)) = 0
 
 not-not : (b : Bool) → not (not b) ≡ b
 not-not true = refl
@@ -72,12 +71,9 @@ told-tellable (ended fs n) = refl
 told-tellable (bare fs) = not-not (eqb (count 3 fs) 0)
 
 -- ---- from an offset on: past the end, and within the slice as the code lends it
-pub told-out : (at : ℕ) (bs : List ℕ) → length bs ≤ at → end_told (scan_of (drop at bs)) ≡ fields_end.Broken
+pub told-out : (at : ℕ) (bs : List ℕ) → length bs ≤ at → end_told (scan_of (drop at bs)) ≡ None
 unfolding end_told scan_of scan_all scan judged fields_ok lengths_ok count both
 told-out at bs h = rw (drop_of_length-le bs h)
-
-pub told-lent : (at : ℕ) (bs : List ℕ) → end_told (scan_of (take (length bs - at) (drop at bs))) ≡ end_told (scan_of (drop at bs))
-told-lent at bs = rw (take_all (length bs - at) (drop at bs) (rw length-drop (omega arith)))
 
 -- ---- one field in front
 judged-same : (ok ok' : List Field → Bool) (r : Scanned) → ((fs : List Field) → ok fs ≡ ok' fs) → judged ok r ≡ judged ok' r
@@ -108,7 +104,7 @@ push-more ok ok' f (bare fs) at c seen h = rw (h fs) (go (ok' fs))
   where
     go : (b : Bool) → later at c seen (stop_of (cond b (bare (f ∷ fs)) broken)) ≡ later (at + 3 + length f.value) (c + 1)
         (either (eqb f.tag 3) seen) (stop_of (cond b (bare fs) broken))
-    go true = ap stop.Edge (met-more (eqb f.tag 3) seen (count 3 fs))
+    go true = ap (λ x. Some (stop.Edge x)) (met-more (eqb f.tag 3) seen (count 3 fs))
     go false = refl
 push-more ok ok' f (ended fs n) at c seen h = rw (h fs) (go (ok' fs))
   where
@@ -117,38 +113,38 @@ push-more ok ok' f (ended fs n) at c seen h = rw (h fs) (go (ok' fs))
     go true =
         let p : at + (3 + length f.value + n) ≡ at + 3 + length f.value + n = omega arith in
         let q : c + suc (length fs) ≡ c + 1 + length fs = omega arith in
-        ap (λ x. stop.Mark x (c + suc (length fs))) p ∙ ap (stop.Mark (at + 3 + length f.value + n)) q
+        ap (λ x. Some (stop.Mark x (c + suc (length fs)))) p ∙ ap (λ x. Some (stop.Mark (at + 3 + length f.value + n) x)) q
     go false = refl
 
 -- ---- the loop's laws: the start, the four exits, and one turn
-later-zero : (s : Stop) → later 0 0 false s ≡ s
+later-zero : (s : Option Stop) → later 0 0 false s ≡ s
 unfolding later either
-later-zero stop.Broken = refl
-later-zero (stop.Mark n m) = rw (zero-add, zero-add)
-later-zero (stop.Edge a) = refl
+later-zero None = refl
+later-zero (Some (stop.Mark n m)) = rw (zero-add, zero-add)
+later-zero (Some (stop.Edge a)) = refl
 
 pub stop-start : (bs : List ℕ) → stop_at 0 0 none_seen bs ≡ stop_of (scan_of bs)
 unfolding stop_at scan_of none_seen
 stop-start bs = rw (later-zero, judged-same (ok_from none_seen) fields_ok (scan_all bs) ok-start)
 
-pub stop-edge : (at c : ℕ) (s : Seen) (bs : List ℕ) → length bs ≤ at → stop_at at c s bs ≡ stop.Edge s.console
+pub stop-edge : (at c : ℕ) (s : Seen) (bs : List ℕ) → length bs ≤ at → stop_at at c s bs ≡ Some (stop.Edge s.console)
 unfolding stop_at scan_all scan judged stop_of later count
 stop-edge at c s bs h = rw (drop_of_length-le bs h, ok-none s, either-false s.console)
 
 module _ (at c : ℕ) (s : Seen) (bs : List ℕ) (h : at < length bs) where
-  pub stop-broken : head_at at bs ≡ head.Broken → stop_at at c s bs ≡ stop.Broken
+  pub stop-broken : head_at at bs ≡ None → stop_at at c s bs ≡ None
   unfolding stop_at follow judged stop_of later
   stop-broken e = rw (head-scan at bs h, e)
 
-  pub stop-mark : head_at at bs ≡ head.End → stop_at at c s bs ≡ stop.Mark (at + 3) c
+  pub stop-mark : head_at at bs ≡ (Some head.End) → stop_at at c s bs ≡ Some (stop.Mark (at + 3) c)
   unfolding stop_at follow judged stop_of later
   stop-mark e = rw (head-scan at bs h, e, ok-none s, add-zero)
 
-  module _ {t v n x : ℕ} (e : head_at at bs ≡ head.Field t v n x) where
+  module _ {t v n x : ℕ} (e : head_at at bs ≡ Some (head.Field t v n x)) where
     value-length : length (part v n bs) ≡ n
     value-length = let r = head-room at bs e in part_length v n bs (omega arith)
 
-    pub stop-not : allowed s t n ≡ false → stop_at at c s bs ≡ stop.Broken
+    pub stop-not : allowed s t n ≡ false → stop_at at c s bs ≡ None
     unfolding stop_at follow judged stop_of later mk_field
     stop-not a =
         rw (

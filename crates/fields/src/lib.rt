@@ -5,7 +5,7 @@
 ghost use Rattle.std.specs.Prelude.{◌≡◌, ◌+◌, ◌<◌, ◌≤◌, length, drop};
 ghost use Rattle.words.specs.Word.{num_at};
 ghost use Rattle.fields.specs.Fields.{length_ok, scan_of, describable, fields_in};
-ghost use Rattle.fields.specs.Steps.{head_at, is_seen, seen_with, none_seen, allowed, stop_of, end_told, step_at};
+ghost use Rattle.fields.specs.Steps.{head_at, field_place_of, is_seen, seen_with, none_seen, allowed, stop_of, end_told, step_at};
 
 // Bytes of a field before its value: the tag and the two bytes of the length. The end mark has no more than these.
 pub const FIELD_HEAD: usize = 3;
@@ -28,11 +28,10 @@ const SERIAL_BYTES: usize = 8;
 
 const CHOICE_BYTES: usize = 1;
 
-// What is at an offset: broken bytes (cut short, or tag 0 with a length); the end mark; or a field, with the offset and length of its
-// value and the offset after it. Private, because no function may give out the offset of a value with tag 3 (FD9).
+// What is at an offset: the end mark; or a field, with the offset and length of its value and the offset after it. Private, because no
+// function may give out the offset of a value with tag 3 (FD9).
 #[derive(Clone, Copy)]
 enum Head {
-    Broken,
     End,
     Field {
         tag: u8,
@@ -42,33 +41,24 @@ enum Head {
     },
 }
 
-// A field as callers see it: its tag with the offset and length of its value; the withdrawn field, tag 3, without its value; or no field.
+// A field as callers see it: its tag with the offset and length of its value; or the withdrawn field, tag 3, without its value.
 #[derive(Clone, Copy)]
 pub enum FieldPlace {
     Raw { tag: u8, at: usize, len: usize },
     Withdrawn,
-    Nothing,
 }
 
-// One step of a walk over the fields: the field at an offset, and the offset after it.
+// One step of a walk over the fields: the field at an offset, if there is one, and the offset after it.
 #[derive(Clone, Copy)]
 pub struct FieldStep {
-    pub field: FieldPlace,
+    pub field: Option<FieldPlace>,
     pub next: usize,
 }
 
-// How the fields of a slice end: broken, or with an end mark, and then the number of bytes through the mark.
-#[derive(Clone, Copy)]
-pub enum FieldsEnd {
-    Broken,
-    Ended(usize),
-}
-
-// Where a pass over the fields stops: at a broken rule; after an end mark, at `end`, with `passed` fields before it; or at the slice's end
-// without a mark, and then `console` is whether it passed a tag 3.
+// Where a pass over good fields stops: after an end mark, at `end`, with `passed` fields before it; or at the slice's end without a mark,
+// and then `console` is whether it passed a tag 3.
 #[derive(Clone, Copy)]
 enum Stop {
-    Broken,
     Mark { end: usize, passed: usize },
     Edge { console: bool },
 }
@@ -81,68 +71,120 @@ pub struct Seen {
     pub console: bool,
 }
 
-// What is at `at`. Checks neither the lengths of tags 1 to 3 nor whether they repeat.
-fn field_at(part: &[u8], at: usize) -> Head
+impl Seen {
+    // No tag met so far.
+    pub fn none() -> Seen
+        ensures { result ≡ none_seen }
+    {
+        Seen {
+            name: false,
+            serial: false,
+            console: false,
+        }
+    }
+
+    // Whether `tag` is one of 1 to 3 and met before.
+    pub fn has(self, tag: u8) -> bool
+        ensures { result ≡ is_seen self tag }
+    {
+        match tag {
+            TAG_NAME => self.name,
+            TAG_SERIAL => self.serial,
+            TAG_CONSOLE => self.console,
+            _ => false,
+        }
+    }
+
+    // These tags, with `tag` added. Tags other than 1 to 3 are not recorded.
+    pub fn with(self, tag: u8) -> Seen
+        ensures { result ≡ seen_with self tag }
+    {
+        match tag {
+            TAG_NAME => Seen { name: true, ..self },
+            TAG_SERIAL => Seen {
+                serial: true,
+                ..self
+            },
+            TAG_CONSOLE => Seen {
+                console: true,
+                ..self
+            },
+            _ => self,
+        }
+    }
+
+    // Whether a field may follow the fields with these tags: its length is allowed and tags 1 to 3 do not repeat.
+    fn allows(self, tag: u8, len: usize) -> bool
+        ensures { result ≡ allowed self tag len }
+    {
+        length_ok(tag, len) && !self.has(tag)
+    }
+}
+
+// What is at `at`; `None` if the bytes are broken: cut short, or tag 0 with a length. Checks neither the lengths of tags 1 to 3 nor whether
+// they repeat.
+fn field_at(part: &[u8], at: usize) -> Option<Head>
     ensures { result ≡ head_at at part.now }
 {
     if part.len() < at {
-        return Head::Broken;
+        return None;
     }
     if part.len() - at < FIELD_HEAD {
-        return Head::Broken;
+        return None;
     }
     let tag = part[at];
     let len = words::u16_at(part, at + 1) as usize;
     let value = at + FIELD_HEAD;
     if part.len() - value < len {
-        return Head::Broken;
+        return None;
     }
     let next = value + len;
     if tag != TAG_END {
-        return Head::Field {
+        return Some(Head::Field {
             tag,
             value,
             len,
             next,
-        };
+        });
     }
     if len != 0 {
-        return Head::Broken;
+        return None;
     }
-    Head::End
+    Some(Head::End)
+}
+
+// A field as callers see it.
+fn place_of(tag: u8, at: usize, len: usize) -> FieldPlace
+    ensures { result ≡ field_place_of tag at len }
+{
+    if tag == TAG_CONSOLE {
+        return FieldPlace::Withdrawn;
+    }
+    FieldPlace::Raw { tag, at, len }
 }
 
 // The field at `at` and the offset after it. If there is no field, `next` is the slice's length.
 pub fn step_at(part: &[u8], at: usize) -> FieldStep
     ensures { result ≡ step_at at part.now }
 {
-    let head = field_at(part, at);
-    let Head::Field {
-        tag,
-        value,
-        len,
-        next,
-    } = head
-    else {
-        let next = part.len();
-        return FieldStep {
-            field: FieldPlace::Nothing,
-            next,
-        };
+    let none = FieldStep {
+        field: None,
+        next: part.len(),
     };
-    if tag == TAG_CONSOLE {
-        return FieldStep {
-            field: FieldPlace::Withdrawn,
+    match field_at(part, at) {
+        Some(
+            Head::Field {
+                tag,
+                value,
+                len,
+                next,
+            },
+        ) => FieldStep {
+            field: Some(place_of(tag, value, len)),
             next,
-        };
-    }
-    FieldStep {
-        field: FieldPlace::Raw {
-            tag,
-            at: value,
-            len,
         },
-        next,
+        Some(Head::End) => none,
+        None => none,
     }
 }
 
@@ -150,103 +192,27 @@ pub fn step_at(part: &[u8], at: usize) -> FieldStep
 pub fn length_ok(tag: u8, len: usize) -> bool
     ensures { result ≡ length_ok tag len }
 {
-    if tag == TAG_END {
-        return false;
-    }
-    if tag == TAG_NAME {
-        if len < NAME_LEAST {
-            return false;
-        }
-        return len <= NAME_MOST;
-    }
-    if tag == TAG_SERIAL {
-        return len == SERIAL_BYTES;
-    }
-    if tag == TAG_CONSOLE {
-        return len == CHOICE_BYTES;
-    }
-    len < 0x1_0000
-}
-
-// Whether `tag` is one of 1 to 3 and in `seen`.
-pub fn is_seen(seen: Seen, tag: u8) -> bool
-    ensures { result ≡ is_seen seen tag }
-{
-    if tag == TAG_NAME {
-        return seen.name;
-    }
-    if tag == TAG_SERIAL {
-        return seen.serial;
-    }
-    if tag == TAG_CONSOLE {
-        return seen.console;
-    }
-    false
-}
-
-// No tag met so far.
-pub fn none_seen() -> Seen
-    ensures { result ≡ none_seen }
-{
-    Seen {
-        name: false,
-        serial: false,
-        console: false,
+    match tag {
+        TAG_END => false,
+        TAG_NAME => NAME_LEAST <= len && len <= NAME_MOST,
+        TAG_SERIAL => len == SERIAL_BYTES,
+        TAG_CONSOLE => len == CHOICE_BYTES,
+        _ => len < 0x1_0000,
     }
 }
 
-// `seen` with `tag` added. Tags other than 1 to 3 are not recorded.
-pub fn marked(seen: Seen, tag: u8) -> Seen
-    ensures { result ≡ seen_with seen tag }
-{
-    if tag == TAG_NAME {
-        return Seen {
-            name: true,
-            serial: seen.serial,
-            console: seen.console,
-        };
-    }
-    if tag == TAG_SERIAL {
-        return Seen {
-            name: seen.name,
-            serial: true,
-            console: seen.console,
-        };
-    }
-    if tag == TAG_CONSOLE {
-        return Seen {
-            name: seen.name,
-            serial: seen.serial,
-            console: true,
-        };
-    }
-    seen
-}
-
-// Whether a field may follow the fields in `seen`: its length is allowed and tags 1 to 3 do not repeat.
-fn allowed(seen: Seen, tag: u8, len: usize) -> bool
-    ensures { result ≡ allowed seen tag len }
-{
-    if !length_ok(tag, len) {
-        return false;
-    }
-    !is_seen(seen, tag)
-}
-
-// One pass over the fields, from the slice's start.
-fn walk(part: &[u8]) -> Stop
+// One pass over the fields, from the slice's start; `None` if they break a rule.
+fn walk(part: &[u8]) -> Option<Stop>
     ensures { result ≡ stop_of (scan_of part.now) }
 {
     let mut at = 0;
     let mut passed = 0;
-    let mut seen = none_seen();
+    let mut seen = Seen::none();
     while at < part.len() {
-        let head = field_at(part, at);
-        match head {
-            Head::Broken => return Stop::Broken,
+        match field_at(part, at)? {
             Head::End => {
                 let end = at + FIELD_HEAD;
-                return Stop::Mark { end, passed };
+                return Some(Stop::Mark { end, passed });
             }
             Head::Field {
                 tag,
@@ -254,50 +220,46 @@ fn walk(part: &[u8]) -> Stop
                 len,
                 next,
             } => {
-                if !allowed(seen, tag, len) {
-                    return Stop::Broken;
+                if !seen.allows(tag, len) {
+                    return None;
                 }
-                seen = marked(seen, tag);
+                seen = seen.with(tag);
                 passed += 1;
                 at = next;
             }
         }
     }
-    let console = seen.console;
-    Stop::Edge { console }
+    Some(Stop::Edge {
+        console: seen.console,
+    })
 }
 
-// Checks the fields from the slice's start through their end mark. Reads nothing after the mark (FD7).
-pub fn scan(part: &[u8]) -> FieldsEnd
+// Checks the fields from the slice's start through their end mark: the number of bytes through the mark, or `None` if they are broken.
+// Reads nothing after the mark (FD7).
+pub fn scan(part: &[u8]) -> Option<usize>
     ensures { result ≡ end_told (scan_of part.now) }
 {
-    let stop = walk(part);
-    match stop {
-        Stop::Broken => FieldsEnd::Broken,
-        Stop::Mark { end, passed: _ } => FieldsEnd::Ended(end),
-        Stop::Edge { console: _ } => FieldsEnd::Broken,
+    match walk(part)? {
+        Stop::Mark { end, passed: _ } => Some(end),
+        Stop::Edge { console: _ } => None,
     }
 }
 
-// The same from offset `at` on. Broken if `at` is past the slice's end.
-pub fn scan_at(page: &[u8], at: usize) -> FieldsEnd
+// The same from offset `at` on. `None` if `at` is past the slice's end.
+pub fn scan_at(page: &[u8], at: usize) -> Option<usize>
     ensures { result ≡ end_told (scan_of (drop at page.now)) }
 {
-    if page.len() < at {
-        return FieldsEnd::Broken;
-    }
-    scan(&page[at..])
+    scan(page.get(at..)?)
 }
 
 // Whether the writer takes a description: its fields keep the rules up to its last byte, and none has tag 0 or tag 3.
 pub fn description_ok(description: &[u8]) -> bool
     ensures { result ≡ describable (scan_of description.now) }
 {
-    let stop = walk(description);
-    match stop {
-        Stop::Broken => false,
-        Stop::Mark { end: _, passed: _ } => false,
-        Stop::Edge { console } => !console,
+    match walk(description) {
+        Some(Stop::Edge { console }) => !console,
+        Some(Stop::Mark { end: _, passed: _ }) => false,
+        None => false,
     }
 }
 
@@ -305,10 +267,9 @@ pub fn description_ok(description: &[u8]) -> bool
 pub fn count(part: &[u8]) -> usize
     ensures { result ≡ length (fields_in (scan_of part.now)) }
 {
-    let stop = walk(part);
-    match stop {
-        Stop::Broken => 0,
-        Stop::Mark { end: _, passed } => passed,
-        Stop::Edge { console: _ } => 0,
+    match walk(part) {
+        Some(Stop::Mark { end: _, passed }) => passed,
+        Some(Stop::Edge { console: _ }) => 0,
+        None => 0,
     }
 }

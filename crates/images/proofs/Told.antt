@@ -17,6 +17,7 @@ use Rattle.lookup.specs.Consoles.{console_named}
 use Rattle.lookup.specs.Lookup.{span_of}
 use Rattle.lookup.specs.Fast.{count_of}
 use Rattle.lookup.specs.declared.ConsoleFound.TheVariants as found
+use Rattle.std.proofs.Common.{Option, Some, None}
 use Rattle.fields.specs.declared.FieldPlace.{FieldPlace}
 use Rattle.fields.specs.declared.FieldPlace.TheVariants as place
 use Rattle.lookup.proofs.Consoles.{console-at}
@@ -61,29 +62,29 @@ unfolding reply_registers register_words reply_words work_words
 reply-back a mecid = (refl, refl)
 
 -- a field: 1, its tag, and the offset and the length of its value; 2 and tag 3 if it is withdrawn; 0 if there is no field
-pub raw-back : (t at n : ℕ) → (get_or (field_words (place.Raw t at n)) 0 0 ≡ 1) × (get_or (field_words (place.Raw t at n)) 1 0 ≡ t) ×
-    (get_or (field_words (place.Raw t at n)) 2 0 ≡ at) × (get_or (field_words (place.Raw t at n)) 3 0 ≡ n)
+pub raw-back : (t at n : ℕ) → (get_or (field_words (Some (place.Raw t at n))) 0 0 ≡ 1) × (get_or (field_words (Some (place.Raw t at n))) 1 0 ≡ t) ×
+    (get_or (field_words (Some (place.Raw t at n))) 2 0 ≡ at) × (get_or (field_words (Some (place.Raw t at n))) 3 0 ≡ n)
 unfolding field_words
 raw-back t at n = (refl, refl, refl, refl)
 
-pub withdrawn-back : (get_or (field_words place.Withdrawn) 0 0 ≡ 2) × (get_or (field_words place.Withdrawn) 1 0 ≡ 3)
+pub withdrawn-back : (get_or (field_words (Some place.Withdrawn)) 0 0 ≡ 2) × (get_or (field_words (Some place.Withdrawn)) 1 0 ≡ 3)
 unfolding field_words
 withdrawn-back = (refl, refl)
 
-pub none-back : get_or (field_words place.Nothing) 0 0 ≡ 0
+pub none-back : get_or (field_words None) 0 0 ≡ 0
 unfolding field_words
 none-back = refl
 
 -- so the words determine the field
-abbrev pub field_of : List ℕ → FieldPlace
+abbrev pub field_of : List ℕ → Option FieldPlace
 field_of w =
-    cond (eqb (get_or w 0 0) 0) place.Nothing (cond (eqb (get_or w 0 0) 1) (place.Raw (get_or w 1 0) (get_or w 2 0) (get_or w 3 0)) place.Withdrawn)
+    cond (eqb (get_or w 0 0) 0) None (Some (cond (eqb (get_or w 0 0) 1) (place.Raw (get_or w 1 0) (get_or w 2 0) (get_or w 3 0)) place.Withdrawn))
 
-pub field_told : (p : FieldPlace) → field_of (field_words p) ≡ p
+pub field_told : (p : Option FieldPlace) → field_of (field_words p) ≡ p
 unfolding field_words
-field_told (place.Raw t at n) = refl
-field_told place.Withdrawn = refl
-field_told place.Nothing = refl
+field_told (Some (place.Raw t at n)) = refl
+field_told (Some place.Withdrawn) = refl
+field_told None = refl
 
 -- ---- no console has the index 2^64 - 1, which stands for no console: there are fewer consoles than bytes in a page
 part-most : (b : Bool) (at n : ℕ) (s : List ℕ) → leb (at + n) (length s) ≡ b → length (cond b (part at n s) []) ≤ length s

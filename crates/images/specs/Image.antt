@@ -1,6 +1,6 @@
 -- States and answers as images, the lists of words that a C caller lends (CE1). Every image has a state, also a forged one (CE2). Assumes
 -- nothing.
-use Rattle.std.specs.Prelude.{ℕ, ◌+◌, Bool, cond, List, [], ◌∷◌, get_or, replicate, eqb}
+use Rattle.std.specs.Prelude.{ℕ, ◌+◌, Bool, cond, List, [], ◌∷◌, get_or, replicate, eqb, Option, Some, None}
 use Rattle.words.specs.declared.Span.{Span}
 use Rattle.boot.specs.declared.Record.{Record}
 use Rattle.boot.specs.declared.Record.TheVariants.{Fresh, Up, Closed}
@@ -138,10 +138,10 @@ span_words p = p.at ∷ p.len ∷ []
 
 -- ---- the result of a field lookup: 0 if there is no such field; 1, its tag, and the offset and the length of its value; or 2 and its tag
 -- if it is withdrawn
-unfoldable pub field_words : FieldPlace → List ℕ
-field_words (place.Raw t at n) = 1 ∷ t ∷ at ∷ n ∷ []
-field_words place.Withdrawn = 2 ∷ 3 ∷ 0 ∷ 0 ∷ []
-field_words place.Nothing = 0 ∷ 0 ∷ 0 ∷ 0 ∷ []
+unfoldable pub field_words : Option FieldPlace → List ℕ
+field_words (Some (place.Raw t at n)) = 1 ∷ t ∷ at ∷ n ∷ []
+field_words (Some place.Withdrawn) = 2 ∷ 3 ∷ 0 ∷ 0 ∷ []
+field_words None = 0 ∷ 0 ∷ 0 ∷ 0 ∷ []
 
 -- ---- the result of a console lookup by name: its index, or 2^64 - 1 if no console has the name
 unfoldable pub console_number : ConsoleFound → ℕ

@@ -184,16 +184,16 @@ pub fn span_words(span: Span) -> [u64; 2]
 }
 
 // The result of a field lookup: 1, tag, offset and length of the value; 2 and tag 3 for the withdrawn field; zeros for no field.
-pub fn field_words(field: FieldPlace) -> [u64; 4]
+pub fn field_words(field: Option<FieldPlace>) -> [u64; 4]
     ensures { result ≡ field_words field }
 {
     match field {
-        FieldPlace::Raw { tag, at, len } => {
+        Some(FieldPlace::Raw { tag, at, len }) => {
             let number = tag as u64;
             [1, number, at as u64, len as u64]
         }
-        FieldPlace::Withdrawn => [2, 3, 0, 0],
-        FieldPlace::Nothing => [0u64; 4],
+        Some(FieldPlace::Withdrawn) => [2, 3, 0, 0],
+        None => [0u64; 4],
     }
 }
 

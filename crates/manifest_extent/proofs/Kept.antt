@@ -19,7 +19,7 @@ use Rattle.versions.proofs.Editions.{section-count-most}
 use Rattle.entries.specs.Entry.{size}
 use Rattle.fields.specs.Fields.{Scanned, broken, ended, bare, is_ended, taken, reach, scan_of}
 use Rattle.fields.specs.Steps.{end_told}
-use Rattle.fields.specs.declared.FieldsEnd.TheVariants.{Broken, Ended}
+use Rattle.std.proofs.Common.{Some, None}
 use Rattle.fields.proofs.Scans.{never}
 use Rattle.fields.proofs.Same.{taken-room}
 use Rattle.sections.specs.Page.{place_ok, version_at, count_at, pointer_at, in_page, found_at}
@@ -79,13 +79,13 @@ unfolding kept_for
 kept-most v page = omega (arith, highest-most v page 4)
 
 -- ---- where the fields end, given the result of the pass over them
-told-broken : (s : Scanned) → end_told s ≡ Broken → reach s ≡ 4096
+told-broken : (s : Scanned) → end_told s ≡ None → reach s ≡ 4096
 unfolding end_told reach
 told-broken broken h = refl
 told-broken (ended fs n) h = never (cc)
 told-broken (bare fs) h = refl
 
-told-ended : (s : Scanned) (n : ℕ) → end_told s ≡ Ended n → reach s ≡ n
+told-ended : (s : Scanned) (n : ℕ) → end_told s ≡ Some n → reach s ≡ n
 unfolding end_told reach
 told-ended broken n h = never (cc)
 told-ended (ended fs m) n h = cc
@@ -101,13 +101,13 @@ module _ (q : ℕ) (page : List ℕ) where
     unfolding fields_reach
     reach-there = rw (ne_eqb q 0 z)
 
-    pub reach-broken : end_told (scan_of (drop (q % 4096) page)) ≡ Broken → 4096 ≡ fields_reach q page
+    pub reach-broken : end_told (scan_of (drop (q % 4096) page)) ≡ None → 4096 ≡ fields_reach q page
     reach-broken h = rw (reach-there, told-broken (scan_of (drop (q % 4096) page)) h) (omega arith)
 
-    pub reach-past : (n : ℕ) → end_told (scan_of (drop (q % 4096) page)) ≡ Ended n → 4096 - q % 4096 < n → 4096 ≡ fields_reach q page
+    pub reach-past : (n : ℕ) → end_told (scan_of (drop (q % 4096) page)) ≡ Some n → 4096 - q % 4096 < n → 4096 ≡ fields_reach q page
     reach-past n h l = rw (reach-there, told-ended (scan_of (drop (q % 4096) page)) n h) (omega arith)
 
-    pub reach-ended : (n : ℕ) → end_told (scan_of (drop (q % 4096) page)) ≡ Ended n → n ≤ 4096 - q % 4096 → q % 4096 + n ≡ fields_reach q page
+    pub reach-ended : (n : ℕ) → end_told (scan_of (drop (q % 4096) page)) ≡ Some n → n ≤ 4096 - q % 4096 → q % 4096 + n ≡ fields_reach q page
     reach-ended n h l = rw (reach-there, told-ended (scan_of (drop (q % 4096) page)) n h) (omega arith)
 
 -- ---- the kept bytes cover what a reader looks at

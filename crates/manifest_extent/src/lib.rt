@@ -5,19 +5,8 @@ ghost use Rattle.std.specs.Prelude.{◌≡◌, ◌≤◌, max};
 ghost use Rattle.versions.specs.Edition.{core};
 ghost use Rattle.manifest_extent.specs.Kept.{section_end, fields_reach, kept_for};
 
-use fields::FieldsEnd;
 use reader::{Section, View};
 use versions::Edition;
-
-// max(a, b).
-fn larger(a: u64, b: u64) -> u64
-    ensures { result ≡ max a b }
-{
-    if a < b {
-        return b;
-    }
-    a
-}
 
 // The offset after the array of a section `k` in a page of 4,096 bytes; 0 if it has no array there.
 fn section_end(section: Section, k: usize) -> u64
@@ -35,8 +24,7 @@ fn fields_reach(page: &[u8], plat: u64) -> u64
         return 0;
     }
     let at = (plat % words::PAGE_SIZE) as usize;
-    let told = fields::scan_at(page, at);
-    let FieldsEnd::Ended(n) = told else {
+    let Some(n) = fields::scan_at(page, at) else {
         return words::PAGE_SIZE;
     };
     if words::PAGE_LEN - at < n {
@@ -50,14 +38,14 @@ pub fn core_end(page: &[u8], edition: u64, plat: u64) -> u64
     ensures { (result ≡ max (core edition) (fields_reach plat page.now)) × (result ≤ 4096) }
 {
     let edition = Edition { minor: edition };
-    larger(edition.core_size(), fields_reach(page, plat))
+    edition.core_size().max(fields_reach(page, plat))
 }
 
 // max(end, end of the array of a section `k`).
 pub fn higher_end(end: u64, section: Section, k: usize) -> u64
     ensures { result ≡ max end (section_end k section) }
 {
-    larger(end, section_end(section, k))
+    end.max(section_end(section, k))
 }
 
 // The number of bytes at the page's start that the manifest of a view takes: the highest end of core, fields and arrays, rounded up to a
@@ -66,14 +54,10 @@ pub fn higher_end(end: u64, section: Section, k: usize) -> u64
 pub fn kept_for(page: &[u8], view: View) -> u64
     ensures { (result ≡ kept_for view page.now) × (result ≤ 4096) }
 {
-    let dram = view.dram;
-    let console = view.console;
-    let ncoh = view.ncoh;
-    let coh = view.coh;
-    let mut end = core_end(page, view.edition, view.plat);
-    end = higher_end(end, dram, 0);
-    end = higher_end(end, console, 1);
-    end = higher_end(end, ncoh, 2);
-    end = higher_end(end, coh, 3);
+    let end = core_end(page, view.edition, view.plat);
+    let end = higher_end(end, view.dram, 0);
+    let end = higher_end(end, view.console, 1);
+    let end = higher_end(end, view.ncoh, 2);
+    let end = higher_end(end, view.coh, 3);
     8 * ((end + 7) / 8)
 }

@@ -16,8 +16,7 @@ use Rattle.versions.specs.Version.{version_ok}
 use Rattle.versions.specs.Edition.{section_count}
 use Rattle.fields.specs.Fields.{taken}
 use Rattle.fields.proofs.Withdrawn.{both-no}
-use Rattle.fields.specs.declared.FieldsEnd.{FieldsEnd}
-use Rattle.fields.specs.declared.FieldsEnd.TheVariants.{Broken, Ended}
+use Rattle.std.proofs.Common.{Option, Some, None}
 use Rattle.sections.specs.Page.{place_ok, version_at, padding_at, page_platform, platform_at}
 use Rattle.sections.specs.Section.{platform_ok, plat_extent}
 use Rattle.sections.specs.Steps.{plat_end, stays_at}
@@ -66,21 +65,21 @@ module _ (page : List ℕ) where
 
 -- the platform data: what the result of the reader's rule means
 module _ (e base : ℕ) (page : List ℕ) where
-  pub plat-goes : Broken ≡ plat_end e base (platform_at base page) → (p : List ℕ) → p ≡ laid 8 (le_bytes 8 0) page →
+  pub plat-goes : None ≡ plat_end e base (platform_at base page) → (p : List ℕ) → p ≡ laid 8 (le_bytes 8 0) page →
       (◌≡◌ {A = PlatKept} (record { changed = true; from = 0; to = 0 }) (plat_kept e base (platform_at base page))) ×
       (p ≡ zeroed true 8 (le_bytes 8 0) page)
   unfolding plat_kept plat_left plat_extent no_platform page_platform taken zeroed
   plat-goes h p z = (rw (plat-broken e base (platform_at base page) h), z)
 
-  pub plat-stays : (m : ℕ) → Ended m ≡ plat_end e base (platform_at base page) →
+  pub plat-stays : (m : ℕ) → Some m ≡ plat_end e base (platform_at base page) →
       (◌≡◌ {A = PlatKept} (record { changed = false; from = word_at 8 page; to = word_at 8 page + m })
       (plat_kept e base (platform_at base page))) × (page ≡ zeroed false 8 (le_bytes 8 0) page)
   unfolding plat_kept plat_left plat_extent platform_at page_platform zeroed
   plat-stays m h = let a = plat-ended e base (platform_at base page) m h in (rw (a.0, a.1), refl)
 
 -- what an entry of `sections` promises for a page with a good base and length
-pub rule_told : {b : Bool} {r x : FieldsEnd} → Yes b → r ≡ cond b x Broken → r ≡ x
-rule_told {x = x} h e = e ∙ ap (λ t. cond t x Broken) h
+pub rule_told : {b : Bool} {r x : Option ℕ} → Yes b → r ≡ cond b x None → r ≡ x
+rule_told {x = x} h e = e ∙ ap (λ t. cond t x None) h
 
 -- a section
 module _ (w e base : ℕ) (f : PlatKept) (k : ℕ) (page : List ℕ) where

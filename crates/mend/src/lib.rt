@@ -9,7 +9,6 @@ ghost use Rattle.mend.specs.Mend.{minor_at, mend_changes, mended_of, mend_answer
 ghost use Rattle.mend.specs.Steps.{page_to, zeroed, plat_kept, section_goes};
 ghost use Rattle.mend.specs.Report.{mended_number, flag_word, report_words};
 
-use fields::FieldsEnd;
 use reader::Refusal;
 use versions::Edition;
 
@@ -55,8 +54,7 @@ fn mend_plat(page: &mut [u8], base: u64, e: Edition) -> PlatKept
     requires { place_ok base (length page.old) ≡ true }
     ensures { (result ≡ plat_kept e.minor base (platform_at base page.old)) × (page.new ≡ zeroed result.changed 8 (le_bytes 8 0) page.old) }
 {
-    let told = sections::plat_rule(page, base, e);
-    let FieldsEnd::Ended(taken) = told else {
+    let Some(taken) = sections::plat_rule(page, base, e) else {
         words::put_word(page, sections::CORE_PLAT_DATA, 0);
         return PlatKept {
             changed: true,

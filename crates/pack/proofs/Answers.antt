@@ -11,7 +11,7 @@ use Rattle.entries.specs.Array.{words_at, sound_of}
 use Rattle.entries.proofs.Entries.{not-zero}
 use Rattle.fields.specs.Fields.{fields_in, shown_fields, taken}
 use Rattle.fields.specs.Steps.{fields_from}
-use Rattle.fields.specs.declared.FieldsEnd.TheVariants as fields_end
+use Rattle.std.proofs.Common.{Some}
 use Rattle.fields.proofs.Walks.{from_out, from_told}
 use Rattle.sections.specs.Page.{count_at, pointer_at, check_at, in_page, page_section, page_section_at, page_platform, found_at, platform_at}
 use Rattle.sections.specs.Section.{nothing, section_ok, words_in, platform_ok, rules_at}
@@ -84,7 +84,7 @@ plat-range e base q page z h =
     either-cases _ _ (λ b. absurd (z (eqb-true _ _ b))) (λ b. (leb-true _ _ (both_l _ _ b), ltb-true _ _ (both_l _ _ (both_r _ _ b)))) h
 
 plat-told : (e base q : ℕ) (page : List ℕ) → platform_ok e base (page_platform q (found_at base page q)) ≡ true →
-    plat_end e base (page_platform q (found_at base page q)) ≡ fields_end.Ended (taken (found_at base page q))
+    plat_end e base (page_platform q (found_at base page q)) ≡ Some (taken (found_at base page q))
 unfolding plat_end page_platform
 plat-told e base q page h = rw h
 

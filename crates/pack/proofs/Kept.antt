@@ -6,7 +6,8 @@ use Rattle.words.proofs.Read.{num-suc, num-one}
 use Rattle.words.proofs.Store.{splice-splice}
 use Rattle.fields.specs.Facts.{field_bytes}
 use Rattle.fields.specs.Steps.{step_at}
-use Rattle.fields.specs.declared.FieldPlace.TheVariants.{Raw, Withdrawn, Nothing}
+use Rattle.std.proofs.Common.{Some, None}
+use Rattle.fields.specs.declared.FieldPlace.TheVariants.{Raw, Withdrawn}
 use Rattle.fields.specs.declared.FieldStep.{FieldStep}
 use Rattle.fields.proofs.Scans.{never, part_length}
 use Rattle.fields.proofs.Steps.{RawAt, step-cases}
@@ -53,29 +54,29 @@ field-part {at} {t} {v} {n} {x} page b r =
 
 -- ---- a step: no field is left, a withdrawn field is left out, or a field is kept
 module _ (at : ℕ) (page : List ℕ) (s : FieldStep) (e : s ≡ step_at at page) where
-  pub kept-stop : s.field ≡ Nothing → kept_from at page ≡ []
+  pub kept-stop : s.field ≡ None → kept_from at page ≡ []
   unfolding kept_from fields_kept
   kept-stop =
       rw e
-      (step-cases at page (λ s. s.field ≡ Nothing → kept_from at page ≡ []) (λ h n. rw h) (λ x l r h n. never (cc))
+      (step-cases at page (λ s. s.field ≡ None → kept_from at page ≡ []) (λ h n. rw h) (λ x l r h n. never (cc))
       (λ t v m x r n. never (cc)))
 
-  pub kept-over : s.field ≡ Withdrawn → (at < s.next) × (s.next ≤ length page) × (kept_from at page ≡ kept_from s.next page)
+  pub kept-over : s.field ≡ Some Withdrawn → (at < s.next) × (s.next ≤ length page) × (kept_from at page ≡ kept_from s.next page)
   unfolding kept_from fields_kept
   kept-over =
       rw e
-      (step-cases at page (λ s. s.field ≡ Withdrawn → (at < s.next) × (s.next ≤ length page) ×
+      (step-cases at page (λ s. s.field ≡ Some Withdrawn → (at < s.next) × (s.next ≤ length page) ×
       (kept_from at page ≡ kept_from s.next page))
       (λ h n. never (cc))
       (λ x l r h n. (l, r, rw h))
       (λ t v m x r n. never (cc)))
 
-  pub kept_field : {t v m : ℕ} → Bytes page → s.field ≡ Raw t v m →
+  pub kept_field : {t v m : ℕ} → Bytes page → s.field ≡ Some (Raw t v m) →
       (at < s.next) × (s.next ≤ length page) × (kept_from at page ≡ part at (s.next - at) page ++ kept_from s.next page)
   unfolding kept_from fields_kept
   kept_field {t} {v} {m} b =
       rw e
-      (step-cases at page (λ s. s.field ≡ Raw t v m → (at < s.next) × (s.next ≤ length page) ×
+      (step-cases at page (λ s. s.field ≡ Some (Raw t v m) → (at < s.next) × (s.next ≤ length page) ×
       (kept_from at page ≡ part at (s.next - at) page ++ kept_from s.next page))
       (λ h n. never (cc))
       (λ x l r h n. never (cc))

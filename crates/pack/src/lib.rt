@@ -141,21 +141,21 @@ fn put_fields(page: &[u8], from: usize, at: usize, target: &mut [u8]) -> usize
     let mut to = at;
     loop {
         let step = fields::step_at(page, cursor);
-        let field = step.field;
-        let next = step.next;
-        match field {
-            FieldPlace::Nothing => return put_bytes(target, to, &page[run..cursor]),
-            FieldPlace::Withdrawn => {
+        match step.field {
+            None => return put_bytes(target, to, &page[run..cursor]),
+            Some(FieldPlace::Withdrawn) => {
                 to = put_bytes(target, to, &page[run..cursor]);
-                run = next;
+                run = step.next;
             }
-            FieldPlace::Raw {
-                tag: _,
-                at: _,
-                len: _,
-            } => {}
+            Some(
+                FieldPlace::Raw {
+                    tag: _,
+                    at: _,
+                    len: _,
+                },
+            ) => {}
         }
-        cursor = next;
+        cursor = step.next;
     }
 }
 

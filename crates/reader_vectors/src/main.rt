@@ -25,18 +25,18 @@ fn print_number(name: &[u8], n: u64) {
 }
 
 // Prints tag, length and mark of the field that a lookup found, or that it is withdrawn, or that no field was found.
-fn print_field(page: &[u8], field: FieldPlace) {
+fn print_field(page: &[u8], field: Option<FieldPlace>) {
     match field {
-        FieldPlace::Raw { tag, at: _, len } => {
+        Some(FieldPlace::Raw { tag, at: _, len }) => {
             print_number(b"", tag as u64);
             print_number(b"", len as u64);
             vector_io::print_word(vector_io::mark(field_lookup::value_of(page, field)));
             io::write_all(STDOUT, b"\n");
         }
-        FieldPlace::Withdrawn => {
+        Some(FieldPlace::Withdrawn) => {
             io::write_all(STDOUT, b" withdrawn\n");
         }
-        FieldPlace::Nothing => {
+        None => {
             io::write_all(STDOUT, b" none\n");
         }
     }

@@ -22,8 +22,7 @@ use Rattle.sections.specs.Steps.{plat_end, ok_at, ok_to, end_of, apart_at, clear
 use Rattle.fields.specs.Fields.{Scanned, broken, ended, bare, is_ended, taken, scan_of}
 use Rattle.fields.specs.Steps.{end_told}
 use Rattle.fields.proofs.Same.{taken-room}
-use Rattle.fields.specs.declared.FieldsEnd.{FieldsEnd}
-use Rattle.fields.specs.declared.FieldsEnd.TheVariants as fields_end
+use Rattle.std.proofs.Common.{Option, Some, None}
 
 -- ---- base and length of a page
 pub placed : (base n : ℕ) → Yes (place_ok base n) → (n ≡ 4096) × (0 < base) × (base % 4096 ≡ 0) × (base ≤ 2 ^ 52 - 4096)
@@ -243,7 +242,7 @@ module _ (from to k : ℕ) (page : List ℕ) where
       told-above g n cn r q = q ∙ rw (cn, cp) (sym (clear_above (rw (← cp) h) (rw (← cp) g)))
 
 -- fields that a reader accepts, given the result of the pass over them
-pub end-told : (s : Scanned) → cond (is_ended s) (fields_end.Ended (taken s)) fields_end.Broken ≡ end_told s
+pub end-told : (s : Scanned) → cond (is_ended s) (Some (taken s)) None ≡ end_told s
 unfolding is_ended taken end_told
 end-told broken = refl
 end-told (ended fs n) = refl
@@ -251,17 +250,17 @@ end-told (bare fs) = refl
 
 -- the platform data, by where the pointer is
 module _ (e base q : ℕ) (page : List ℕ) where
-  pub plat-none : q ≡ 0 → plat_end e base (page_platform q (found_at base page q)) ≡ fields_end.Ended 0
+  pub plat-none : q ≡ 0 → plat_end e base (page_platform q (found_at base page q)) ≡ Some 0
   unfolding plat_end platform_ok page_platform found_at either taken
   plat-none z = rw (eq-eqb q 0 z)
 
   module _ (n : q ≡ 0 → ⊥) where
-    pub plat-low : q < base + core e → plat_end e base (page_platform q (found_at base page q)) ≡ fields_end.Broken
+    pub plat-low : q < base + core e → plat_end e base (page_platform q (found_at base page q)) ≡ None
     unfolding plat_end platform_ok page_platform either both
     plat-low l = rw (ne_eqb q 0 n, lt-leb (base + core e) q l)
 
     module _ (h : base + core e ≤ q) where
-      pub plat-high : base + 4096 ≤ q → plat_end e base (page_platform q (found_at base page q)) ≡ fields_end.Broken
+      pub plat-high : base + 4096 ≤ q → plat_end e base (page_platform q (found_at base page q)) ≡ None
       unfolding plat_end platform_ok page_platform either both
       plat-high l = rw (ne_eqb q 0 n, le-leb (base + core e) q h, le-ltb q (base + 4096) l)
 
@@ -278,20 +277,20 @@ module _ (e base q : ℕ) (page : List ℕ) where
           (end-told (scan_of (drop (q - base) page)))
 
 -- what the result of the pass over the fields implies for the rule
-by-broken : (b : Bool) (n : ℕ) → fields_end.Broken ≡ cond b (fields_end.Ended n) fields_end.Broken → b ≡ false
+by-broken : (b : Bool) (n : ℕ) → None ≡ cond b (Some n) None → b ≡ false
 by-broken true n h = absurd (let z : ◌≡◌ {A = ℕ} 0 1 = cc in omega arith)
 by-broken false n h = refl
 
-by-ended : (b : Bool) (n m : ℕ) → fields_end.Ended m ≡ cond b (fields_end.Ended n) fields_end.Broken → (b ≡ true) × (m ≡ n)
+by-ended : (b : Bool) (n m : ℕ) → Some m ≡ cond b (Some n) None → (b ≡ true) × (m ≡ n)
 by-ended true n m h = (refl, cc)
 by-ended false n m h = absurd (let z : ◌≡◌ {A = ℕ} 0 1 = cc in omega arith)
 
 module _ (e base : ℕ) (q : PagePlatform) where
-  pub plat-broken : fields_end.Broken ≡ plat_end e base q → platform_ok e base q ≡ false
+  pub plat-broken : None ≡ plat_end e base q → platform_ok e base q ≡ false
   unfolding plat_end
   plat-broken h = by-broken (platform_ok e base q) (taken q.found) h
 
-  pub plat-ended : (m : ℕ) → fields_end.Ended m ≡ plat_end e base q → (platform_ok e base q ≡ true) × (m ≡ taken q.found)
+  pub plat-ended : (m : ℕ) → Some m ≡ plat_end e base q → (platform_ok e base q ≡ true) × (m ≡ taken q.found)
   unfolding plat_end
   plat-ended m h = by-ended (platform_ok e base q) (taken q.found) m h
 
@@ -363,7 +362,7 @@ module _ (w e base : ℕ) (page : List ℕ) (d : ℕ) (cd : d ≡ padding_at pag
   pub told-padding : (d ≡ 0 → ⊥) → false ≡ rules_at w e base page
   told-padding n = sym (rules-padding w e base page (λ z. n (cd ∙ z)))
 
-  module _ (z : d ≡ 0) (q : ℕ) (cq : q ≡ word_at 8 page) (x : FieldsEnd)
+  module _ (z : d ≡ 0) (q : ℕ) (cq : q ≡ word_at 8 page) (x : Option ℕ)
       (cx : x ≡ plat_end e base (page_platform q (found_at base page q))) where
     is_none : padding_at page ≡ 0
     is_none = sym cd ∙ z
@@ -372,10 +371,10 @@ module _ (w e base : ℕ) (page : List ℕ) (d : ℕ) (cd : d ≡ padding_at pag
     unfolding platform_at
     is-end = cx ∙ rw cq
 
-    pub told-broken : x ≡ fields_end.Broken → false ≡ rules_at w e base page
+    pub told-broken : x ≡ None → false ≡ rules_at w e base page
     told-broken h = sym (rules-plat w e base page is_none (plat-broken e base (platform_at base page) (sym h ∙ is-end)))
 
-    module _ (m : ℕ) (h : x ≡ fields_end.Ended m) where
+    module _ (m : ℕ) (h : x ≡ Some m) where
       is-plat : (platform_ok e base (platform_at base page) ≡ true) × (m ≡ taken (found_at base page (word_at 8 page)))
       unfolding platform_at page_platform
       is-plat = plat-ended e base (platform_at base page) m (sym h ∙ is-end)

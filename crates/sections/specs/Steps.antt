@@ -2,13 +2,11 @@
 -- equal to `rules_at` (Section.antt), with padding and platform data; `plat-broken` and `plat-ended` (also there) `plat_end` equal to
 -- `platform_ok`. `stays-to` (mend/proofs/Pages.antt) proves `stays_at`, on the
 -- page as mended so far, equal to the mender's `keeps_at`. Assumes nothing.
-use Rattle.std.specs.Prelude.{ℕ, ◌+◌, ◌≡◌, Bool, cond, List, length, leb}
+use Rattle.std.specs.Prelude.{ℕ, ◌+◌, ◌≡◌, Bool, cond, List, length, leb, Option, Some, None}
 use Rattle.words.specs.Tests.{both, either, every}
 use Rattle.words.specs.Word.{part}
 use Rattle.entries.specs.Entry.{size}
 use Rattle.fields.specs.Fields.{taken}
-use Rattle.fields.specs.declared.FieldsEnd.{FieldsEnd}
-use Rattle.fields.specs.declared.FieldsEnd.TheVariants.{Broken, Ended}
 use Rattle.sections.specs.Page.{count_at, pointer_at, page_section_at, PagePlatform}
 use Rattle.sections.specs.Section.{platform_ok, section_ok}
 
@@ -17,9 +15,9 @@ pub record Copied (core page : List ℕ) : Type 0 where
   pub long : length core ≡ 112
   pub same : part 8 104 core ≡ part 8 104 page
 
--- the platform data: the number of bytes of the fields through their end mark, or broken
-unfoldable pub plat_end : ℕ → ℕ → PagePlatform → FieldsEnd
-plat_end e base q = cond (platform_ok e base q) (Ended (taken q.found)) Broken
+-- the platform data: the number of bytes of the fields through their end mark; `None` if it breaks its rule
+unfoldable pub plat_end : ℕ → ℕ → PagePlatform → Option ℕ
+plat_end e base q = cond (platform_ok e base q) (Some (taken q.found)) None
 
 -- the rule of section k by itself
 unfoldable pub ok_at : (minor edition base k : ℕ) (page : List ℕ) → Bool

@@ -2,15 +2,13 @@
 // that no two arrays overlap, nor the fields and an array.
 #![tactic(auto)]
 
-ghost use Rattle.std.specs.Prelude.{true, cond, ◌≡◌, ℕ, ◌+◌, ◌≤◌, ◌<◌, length};
+ghost use Rattle.std.specs.Prelude.{true, cond, None, ◌≡◌, ℕ, ◌+◌, ◌≤◌, ◌<◌, length};
 ghost use Rattle.words.specs.Tests.{both};
 ghost use Rattle.versions.specs.Edition.{core};
 ghost use Rattle.sections.specs.Page.{place_ok, version_at, padding_at, count_at, pointer_at, check_at, found_at, page_platform, platform_at};
 ghost use Rattle.sections.specs.Section.{nothing, rules_at};
 ghost use Rattle.sections.specs.Steps.{Copied, plat_end, ok_at, ok_to, end_of, apart_to, clear_at, clear_from, stays_at};
-ghost use Rattle.fields.specs.declared.FieldsEnd.TheVariants.{Broken};
 
-use fields::FieldsEnd;
 use versions::Edition;
 
 // Offsets in the core: version and padding, 4 bytes each, and the pointer to the fields, 8 bytes.
@@ -84,19 +82,19 @@ pub fn check_at(page: &[u8], k: u8) -> u64
 }
 
 // The rule of the platform pointer and its fields, on a page read as edition `e` (R2, F1 to F4): the number of bytes of the fields through
-// their end mark, 0 without a pointer, or broken. `size`, here and below, is the core size of `e`, which the caller computes once.
-fn plat_end(page: &[u8], base: u64, e: Edition, size: u64, plat: u64) -> FieldsEnd
+// their end mark, 0 without a pointer, or `None` if it is broken. `size`, here and below, is the core size of `e`, which the caller computes once.
+fn plat_end(page: &[u8], base: u64, e: Edition, size: u64, plat: u64) -> Option<usize>
     requires { (length page.now ≡ 4096) × (base ≤ 0x10_0000_0000_0000) × (size ≡ core e.minor) × (size ≤ 112) }
     ensures { result ≡ plat_end e.minor base (page_platform plat (found_at base page.now plat)) }
 {
     if plat == 0 {
-        return FieldsEnd::Ended(0);
+        return Some(0);
     }
     if plat < base + size {
-        return FieldsEnd::Broken;
+        return None;
     }
     if base + words::PAGE_SIZE <= plat {
-        return FieldsEnd::Broken;
+        return None;
     }
     let at = (plat - base) as usize;
     fields::scan_at(page, at)
@@ -239,8 +237,7 @@ fn rules_ok(page: &[u8], copied: &[u8], base: u64, minor: u64, e: Edition) -> bo
         return false;
     }
     let plat = words::word_at(copied, CORE_PLAT_DATA);
-    let told = plat_end(page, base, e, size, plat);
-    let FieldsEnd::Ended(taken) = told else {
+    let Some(taken) = plat_end(page, base, e, size, plat) else {
         return false;
     };
     let n = e.sections();
@@ -277,13 +274,13 @@ pub fn judge(page: &[u8], base: u64, minor: u64, e: Edition, core: &mut [u8; 112
     rules_ok(page, core, base, minor, e)
 }
 
-// The rule of the platform pointer and its fields alone: the number of bytes of the fields, or broken. Also broken if base or length is
-// bad.
-pub fn plat_rule(page: &[u8], base: u64, e: Edition) -> FieldsEnd
-    ensures { result ≡ cond (place_ok base (length page.now)) (plat_end e.minor base (platform_at base page.now)) Broken }
+// The rule of the platform pointer and its fields alone: the number of bytes of the fields, or `None` if it is broken, also if
+// base or length is bad.
+pub fn plat_rule(page: &[u8], base: u64, e: Edition) -> Option<usize>
+    ensures { result ≡ cond (place_ok base (length page.now)) (plat_end e.minor base (platform_at base page.now)) None }
 {
     if !place_ok(base, page.len()) {
-        return FieldsEnd::Broken;
+        return None;
     }
     plat_end(
         page,

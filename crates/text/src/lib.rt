@@ -179,12 +179,11 @@ fn put_fields(out: &mut [u8], at: usize, page: &[u8], start: usize) -> usize
     let mut cursor = start;
     loop {
         let step = field_lookup::field_next(page, cursor);
-        let field = step.field;
-        if field_lookup::is_nothing(field) {
+        if step.field.is_none() {
             return to;
         }
-        let value = field_lookup::value_of(page, field);
-        to = field_text::put_field(out, to, field, value);
+        let value = field_lookup::value_of(page, step.field);
+        to = field_text::put_field(out, to, step.field, value);
         cursor = step.next;
     }
 }

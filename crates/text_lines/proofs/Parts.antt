@@ -25,9 +25,10 @@ use Rattle.reader.proofs.Whole.{reading-answer}
 use Rattle.fields.specs.Steps.{step_at}
 use Rattle.lookup.specs.Fast.{word_of}
 use Rattle.field_lookup.specs.Fields.{shown_value, value_in, field_as}
-use Rattle.field_lookup.specs.Steps.{shown_from, is_nothing}
+use Rattle.field_lookup.specs.Steps.{shown_from}
+use Rattle.std.proofs.Common.{Option, Some, None, is_none}
 use Rattle.fields.specs.declared.FieldPlace.{FieldPlace}
-use Rattle.fields.specs.declared.FieldPlace.TheVariants.{Raw, Withdrawn, Nothing}
+use Rattle.fields.specs.declared.FieldPlace.TheVariants.{Raw, Withdrawn}
 use Rattle.fields.specs.declared.FieldStep.{FieldStep}
 use Rattle.field_lookup.proofs.Fields.{place_shown, step-some, step-first}
 use Rattle.text_lines.specs.Text.{newline, space, none_text, absent_text, title_text, hex_text, name_text, word_text, gap_text, count_text}
@@ -85,19 +86,19 @@ unfolding pointer_text
 pointer-some p h = rw (ne_eqb p 0 h)
 
 -- ---- a field: its line, and the lines of the fields after it
-place-line : (f : FieldPlace) (page vs : List ℕ) → is_nothing f ≡ false → vs ≡ shown_value (place_shown f page) →
+place-line : (f : Option FieldPlace) (page vs : List ℕ) → is_none f ≡ false → vs ≡ shown_value (place_shown f page) →
     place_text f vs ≡ field_text (place_shown f page)
-unfolding is_nothing shown_value place_shown place_text
-place-line (Raw t v m) page vs n w = rw w
-place-line Withdrawn page vs n w = refl
-place-line Nothing page vs n w = absurd (false≢true (sym n))
+unfolding shown_value place_shown place_text
+place-line (Some (Raw t v m)) page vs n w = rw w
+place-line (Some Withdrawn) page vs n w = refl
+place-line None page vs n w = absurd (false≢true (sym n))
 
-pub fields-step : (at : ℕ) (page : List ℕ) (s : FieldStep) (vs : List ℕ) → s ≡ step_at at page → is_nothing s.field ≡ false →
+pub fields-step : (at : ℕ) (page : List ℕ) (s : FieldStep) (vs : List ℕ) → s ≡ step_at at page → is_none s.field ≡ false →
     vs ≡ value_in (field_as s.field page) →
     place_text s.field vs ++ fields_text (shown_from s.next page) ≡ fields_text (shown_from at page)
 unfolding fields_text value_in
 fields-step at page s vs h f w =
-    let n : is_nothing (step_at at page).field ≡ false = ap (λ (x : FieldStep). is_nothing x.field) (sym h) ∙ f in
+    let n : is_none (step_at at page).field ≡ false = ap (λ (x : FieldStep). is_none x.field) (sym h) ∙ f in
     let q : vs ≡ shown_value (place_shown (step_at at page).field page) = w ∙ ap (λ (x : FieldStep). value_in (field_as x.field page)) h ∙
     ap value_in (step-first at page n) in
     rw (h, place-line (step_at at page).field page vs n q, step-some at page n)

@@ -30,16 +30,16 @@ returns-then-not-length_ok c =
       sym c.length_ok.ensures ∙ c.if-not-length_ok.true,
     ) c.field_found-then-not-length_ok.ensures
 
-pub returns-then-is_seen : goal.returns-then-is_seen
+pub returns-then-has : goal.returns-then-has
 unfolding unless field_tests
-returns-then-is_seen c =
+returns-then-has c =
     let a = c.args in
     simp (
       le-leb (a.at + 3 + a.len) a.n (search rules),
       ne_eqb a.tag 0 (search rules),
       sym c.length_ok.ensures ∙ c.if-not-length_ok.false,
-      sym c.is_seen.ensures ∙ c.if-is_seen.true,
-    ) c.field_found-then-is_seen.ensures
+      sym c.has.ensures ∙ c.if-has.true,
+    ) c.field_found-then-has.ensures
 
 pub returns : goal.returns
 unfolding unless field_tests
@@ -49,5 +49,5 @@ returns c =
       le-leb (a.at + 3 + a.len) a.n (search rules),
       ne_eqb a.tag 0 (search rules),
       sym c.length_ok.ensures ∙ c.if-not-length_ok.false,
-      sym c.is_seen.ensures ∙ c.if-is_seen.false,
+      sym c.has.ensures ∙ c.if-has.false,
     )

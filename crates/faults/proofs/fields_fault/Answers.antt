@@ -4,7 +4,7 @@ use Rattle.faults.proofs.fields_fault.Goals as goal
 
 pub loop-i-init : goal.loop-i-init
 loop-i-init c =
-    let a = c.args in (search rules, search rules, walk_start _ a.from a.part.now c.none_seen-seen.ensures)
+    let a = c.args in (search rules, search rules, walk_start _ a.from a.part.now c.none-seen.ensures)
 
 pub returns-in_default : goal.returns-in_default
 returns-in_default c =
@@ -31,7 +31,7 @@ loop-i-preserved c =
     c.in-Clear.is in (
       search rules,
       r,
-      rw c.marked-seen.ensures (walk_more l.seen a.from l.i l.at a.part.now (search rules) _ _
+      rw c.with-seen.ensures (walk_more l.seen a.from l.i l.at a.part.now (search rules) _ _
           c.byte_at-tag.ensures
           c.u16_at-len.ensures.0 _ c.field_fault-told.ensures
           c.in-Clear.is c.if-tag-eq0.false ∙ l.invariant.2),

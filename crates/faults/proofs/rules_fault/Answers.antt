@@ -20,7 +20,7 @@ returns-in_default c =
     let a = c.args in
     told-plat a.minor a.e.minor a.base a.page.now c.requires _
     c.padding_at-padding.ensures c.if-padding-ne0.false _
-    c.word_at-plat.ensures _ c.plat_rule-end.ensures
+    c.word_at-plat.ensures _ c.plat_rule.ensures
     c.in_default.is _ c.plat_fault.ensures
 
 pub sections_fault-told-requires : goal.sections_fault-told-requires
@@ -32,8 +32,8 @@ returns-in_default-told c =
     let a = c.args in
     told-sections a.minor a.e.minor a.base a.page.now c.requires _
     c.padding_at-padding.ensures c.if-padding-ne0.false _ c.word_at-plat.ensures _
-    c.plat_rule-end.ensures _
-    c.in-Ended.is _ c.sections-n.ensures.0 _
+    c.plat_rule.ensures _
+    c.in-Some.is _ c.sections-n.ensures.0 _
     c.sections_fault-told.ensures _ c.in_default-told.is
 
 pub overflow_add-plat : goal.overflow_add-plat
@@ -43,8 +43,8 @@ overflow_add-plat c =
       arith,
       told-top a.minor a.e.minor a.base a.page.now c.requires _
           c.padding_at-padding.ensures c.if-padding-ne0.false _ c.word_at-plat.ensures _
-          c.plat_rule-end.ensures _
-          c.in-Ended.is,
+          c.plat_rule.ensures _
+          c.in-Some.is,
     )
 
 pub overlaps-requires : goal.overlaps-requires
@@ -53,8 +53,8 @@ overlaps-requires c =
       search rules,
       told-ends a.minor a.e.minor a.base a.page.now c.requires _
           c.padding_at-padding.ensures c.if-padding-ne0.false _ c.word_at-plat.ensures _
-          c.plat_rule-end.ensures _
-          c.in-Ended.is _ c.sections-n.ensures.0 _
+          c.plat_rule.ensures _
+          c.in-Some.is _ c.sections-n.ensures.0 _
           c.sections_fault-told.ensures c.in-Clear.is,
     )
 
@@ -63,6 +63,6 @@ returns c =
     let a = c.args in
     told-overlaps a.minor a.e.minor a.base a.page.now c.requires _
     c.padding_at-padding.ensures c.if-padding-ne0.false _ c.word_at-plat.ensures _
-    c.plat_rule-end.ensures _ c.in-Ended.is _
+    c.plat_rule.ensures _ c.in-Some.is _
     c.sections-n.ensures.0 _ c.sections_fault-told.ensures
     c.in-Clear.is _ c.overlaps.ensures

@@ -1,9 +1,6 @@
-use mathlib.Core.Path.{◌≡◌}
+use Rattle.std.proofs.Common.{◌≡◌, ◌-◌}
 use Rattle.field_lookup.specs.Steps.{place_nth}
 use Rattle.field_lookup.proofs.field_of.Given as goal
 
-abbrev pub invariant-loop-step : goal.invariant-loop-step
-invariant-loop-step l = place_nth l.left l.cursor l.page ≡ place_nth l.initial.left l.initial.cursor l.page
-
-abbrev pub decreases-loop-step : goal.decreases-loop-step
-decreases-loop-step l = l.left
+abbrev pub invariant-loop : goal.invariant-loop
+invariant-loop l = place_nth (l.i - l.counter) l.cursor l.page ≡ place_nth l.i l.initial.cursor l.page

@@ -10,14 +10,14 @@ returns-then-plat-eq0 c =
     let e = start_none a.page.now a.view (search rules) in
     record { value = e; page_value = ap (λ x. shown_from x a.page.now) e ∙ started a.page.now a.view }
 
-pub returns-in_default : goal.returns-in_default
-returns-in_default c =
+pub returns-in-None : goal.returns-in-None
+returns-in-None c =
     let a = c.args in
-    let e = start-broken a.page.now a.view (search rules) (sym c.scan_at-told.ensures ∙ c.in_default.is) in
+    let e = start-broken a.page.now a.view (search rules) (sym c.scan_at.ensures ∙ c.in-None.is) in
     record { value = e; page_value = ap (λ x. shown_from x a.page.now) e ∙ started a.page.now a.view }
 
-pub returns : goal.returns
-returns c =
+pub returns-in-Some : goal.returns-in-Some
+returns-in-Some c =
     let a = c.args in
-    let e = start-there a.page.now a.view (search rules) _ (sym c.scan_at-told.ensures ∙ c.in-Ended.is) in
+    let e = start-there a.page.now a.view (search rules) _ (sym c.scan_at.ensures ∙ c.in-Some.is) in
     record { value = e; page_value = ap (λ x. shown_from x a.page.now) e ∙ started a.page.now a.view }

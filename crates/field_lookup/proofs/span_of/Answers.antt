@@ -1,15 +1,20 @@
-use mathlib.Core.Path.{sym, ap}
+use Rattle.std.proofs.Common.{Some, sym, ap, ◌∙◌}
+use Rattle.fields.specs.declared.FieldPlace.{FieldPlace}
 use Rattle.field_lookup.specs.Fields.{place_span}
 use Rattle.field_lookup.proofs.span_of.Goals as goal
 
-pub returns-in-Raw : goal.returns-in-Raw
+pub returns-in-Some-Raw : goal.returns-in-Some-Raw
 unfolding place_span
-returns-in-Raw c = sym (ap place_span c.in-Raw.is)
+returns-in-Some-Raw c =
+    let f = c.in-Some-Raw in
+    let e = rw f.is at f.field-0-is in sym (ap place_span (f.is ∙ ap (λ (p : FieldPlace). Some p) e))
 
-pub returns-in-Withdrawn : goal.returns-in-Withdrawn
+pub returns-in-Some-Withdrawn : goal.returns-in-Some-Withdrawn
 unfolding place_span
-returns-in-Withdrawn c = sym (ap place_span c.in-Withdrawn.is)
+returns-in-Some-Withdrawn c =
+    let f = c.in-Some-Withdrawn in
+    let e = rw f.is at f.field-0-is in sym (ap place_span (f.is ∙ ap (λ (p : FieldPlace). Some p) e))
 
-pub returns-in-Nothing : goal.returns-in-Nothing
+pub returns-in-None : goal.returns-in-None
 unfolding place_span
-returns-in-Nothing c = sym (ap place_span c.in-Nothing.is)
+returns-in-None c = sym (ap place_span c.in-None.is)

@@ -1,18 +1,21 @@
+use Rattle.std.proofs.Common.{Some, ap, ◌∙◌, rules}
+use Rattle.fields.specs.declared.FieldPlace.{FieldPlace}
 use Rattle.text_lines.specs.Text.{newline, withdrawn_text, field_text}
 use Rattle.text_lines.specs.Steps.{place_text}
 use Rattle.text_lines.proofs.Lay.{wrote_none}
-use borrow.Author.Rules.{rules}
 use Rattle.field_text.proofs.put_field.Goals as goal
 
-pub returns-in-Raw : goal.returns-in-Raw
+pub returns-in-Some-Raw : goal.returns-in-Some-Raw
 unfolding place_text
-returns-in-Raw c = rw c.in-Raw.is c.put_raw.ensures
+returns-in-Some-Raw c =
+    let f = c.in-Some-Raw in rw (f.is ∙ ap (λ (p : FieldPlace). Some p) (rw f.is at f.field-0-is)) c.put_raw.ensures
 
-pub returns-in-Withdrawn : goal.returns-in-Withdrawn
+pub returns-in-Some-Withdrawn : goal.returns-in-Some-Withdrawn
 unfolding place_text field_text withdrawn_text newline
-returns-in-Withdrawn c = rw c.in-Withdrawn.is c.put.ensures
+returns-in-Some-Withdrawn c =
+    let f = c.in-Some-Withdrawn in rw (f.is ∙ ap (λ (p : FieldPlace). Some p) (rw f.is at f.field-0-is)) c.put.ensures
 
-pub returns-in-Nothing : goal.returns-in-Nothing
+pub returns-in-None : goal.returns-in-None
 unfolding place_text
-returns-in-Nothing c =
-    let a = c.args in rw c.in-Nothing.is (wrote_none a.at a.out.now (search rules))
+returns-in-None c =
+    let a = c.args in rw c.in-None.is (wrote_none a.at a.out.now (search rules))

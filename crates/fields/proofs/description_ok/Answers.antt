@@ -1,22 +1,21 @@
-use mathlib.Core.Path.{sym, ap, ◌∙◌}
+use Rattle.std.proofs.Common.{Some, sym, ap, ◌∙◌}
 use Rattle.fields.specs.Fields.{scan_of}
+use Rattle.fields.specs.declared.Stop.{Stop}
 use Rattle.fields.proofs.Stops.{is_told, told-tellable}
 use Rattle.fields.proofs.description_ok.Goals as goal
 
-pub returns-in-Broken : goal.returns-in-Broken
+pub returns-in-Some-Mark : goal.returns-in-Some-Mark
 unfolding is_told
-returns-in-Broken c =
-    sym (ap is_told c.in-Broken.is) ∙ ap is_told c.walk-stop.ensures ∙
-    told-tellable (scan_of c.args.description.now)
+returns-in-Some-Mark c =
+    let m = c.in-Some-Mark in
+    sym (ap is_told (m.is ∙ ap (λ (s : Stop). Some s) m.field-0-is)) ∙ ap is_told c.walk.ensures ∙ told-tellable (scan_of c.args.description.now)
 
-pub returns-in-Mark : goal.returns-in-Mark
+pub returns-in-Some-Edge : goal.returns-in-Some-Edge
 unfolding is_told
-returns-in-Mark c =
-    sym (ap is_told c.in-Mark.is) ∙ ap is_told c.walk-stop.ensures ∙
-    told-tellable (scan_of c.args.description.now)
+returns-in-Some-Edge c =
+    let m = c.in-Some-Edge in
+    sym (ap is_told (m.is ∙ ap (λ (s : Stop). Some s) m.field-0-is)) ∙ ap is_told c.walk.ensures ∙ told-tellable (scan_of c.args.description.now)
 
-pub returns-in-Edge : goal.returns-in-Edge
+pub returns-in-None : goal.returns-in-None
 unfolding is_told
-returns-in-Edge c =
-    sym (ap is_told c.in-Edge.is) ∙ ap is_told c.walk-stop.ensures ∙
-    told-tellable (scan_of c.args.description.now)
+returns-in-None c = sym (ap is_told c.in-None.is) ∙ ap is_told c.walk.ensures ∙ told-tellable (scan_of c.args.description.now)

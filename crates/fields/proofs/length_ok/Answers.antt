@@ -4,31 +4,31 @@ use Rattle.words.specs.Tests.{both}
 use Rattle.fields.specs.Fields.{length_ok}
 use Rattle.fields.proofs.length_ok.Goals as goal
 
-pub returns-then-tag-eq-TAG_END : goal.returns-then-tag-eq-TAG_END
+pub returns-in-0 : goal.returns-in-0
 unfolding length_ok both
-returns-then-tag-eq-TAG_END c = let a = c.args in simp (eq-eqb a.tag 0 (search rules))
+returns-in-0 c = let a = c.args in simp (eq-eqb a.tag 0 (search rules))
 
-pub returns-then-len-lt-NAME_LEAST : goal.returns-then-len-lt-NAME_LEAST
+pub returns-then-len-ge-NAME_LEAST : goal.returns-then-len-ge-NAME_LEAST
 unfolding length_ok both
-returns-then-len-lt-NAME_LEAST c =
-    let a = c.args in
-    simp (ne_eqb a.tag 0 (search rules), eq-eqb a.tag 1 (search rules), lt-leb 1 a.len (search rules))
-
-pub returns-then-tag-eq-TAG_NAME : goal.returns-then-tag-eq-TAG_NAME
-unfolding length_ok both
-returns-then-tag-eq-TAG_NAME c =
+returns-then-len-ge-NAME_LEAST c =
     let a = c.args in
     simp (ne_eqb a.tag 0 (search rules), eq-eqb a.tag 1 (search rules), le-leb 1 a.len (search rules))
 
-pub returns-then-tag-eq-TAG_SERIAL : goal.returns-then-tag-eq-TAG_SERIAL
+pub returns-else-len-ge-NAME_LEAST : goal.returns-else-len-ge-NAME_LEAST
 unfolding length_ok both
-returns-then-tag-eq-TAG_SERIAL c =
+returns-else-len-ge-NAME_LEAST c =
+    let a = c.args in
+    simp (ne_eqb a.tag 0 (search rules), eq-eqb a.tag 1 (search rules), lt-leb 1 a.len (search rules))
+
+pub returns-in-2 : goal.returns-in-2
+unfolding length_ok both
+returns-in-2 c =
     let a = c.args in
     simp (ne_eqb a.tag 0 (search rules), ne_eqb a.tag 1 (search rules), eq-eqb a.tag 2 (search rules))
 
-pub returns-then-tag-eq-TAG_CONSOLE : goal.returns-then-tag-eq-TAG_CONSOLE
+pub returns-in-3 : goal.returns-in-3
 unfolding length_ok both
-returns-then-tag-eq-TAG_CONSOLE c =
+returns-in-3 c =
     let a = c.args in
     simp (
       ne_eqb a.tag 0 (search rules),
@@ -37,9 +37,9 @@ returns-then-tag-eq-TAG_CONSOLE c =
       eq-eqb a.tag 3 (search rules),
     )
 
-pub returns : goal.returns
+pub returns-in_default : goal.returns-in_default
 unfolding length_ok both
-returns c =
+returns-in_default c =
     let a = c.args in
     simp (
       ne_eqb a.tag 0 (search rules),

@@ -1,21 +1,22 @@
-use mathlib.Core.Path.{sym, ◌∙◌}
-use Rattle.fields.proofs.Steps.{step-stop, step_field, step-withdrawn}
-use borrow.Author.Rules.{rules}
+use Rattle.std.proofs.Common.{Some, None, sym, ap, ◌∙◌}
+use Rattle.fields.specs.declared.Head.{Head}
+use Rattle.fields.specs.declared.Head.TheVariants as head
+use Rattle.fields.proofs.Scans.{never}
+use Rattle.fields.proofs.Steps.{step-stop, step-there}
 use Rattle.fields.proofs.step_at.Goals as goal
 
-pub returns-in_default : goal.returns-in_default
-returns-in_default c =
-    let a = c.args in
-    step-stop a.at a.part.now c.field_at-head.result (sym c.field_at-head.ensures) c.in_default.not-Field
+pub returns-in-Some-Field : goal.returns-in-Some-Field
+returns-in-Some-Field c =
+    let f = c.in-Some-Field in
+    rw c.place_of.ensures (step-there c.args.at c.args.part.now (sym c.field_at.ensures ∙ f.is ∙ ap (λ (h : Head). Some h) f.field-0-is))
 
-pub returns-then-tag-eq-TAG_CONSOLE : goal.returns-then-tag-eq-TAG_CONSOLE
-returns-then-tag-eq-TAG_CONSOLE c =
+pub returns-in-Some-End : goal.returns-in-Some-End
+returns-in-Some-End c =
     let a = c.args in
-    step-withdrawn a.at a.part.now (sym c.field_at-head.ensures ∙ c.in-Field.is)
-    (search rules)
+    step-stop a.at a.part.now (Some head.End) (sym c.field_at.ensures ∙ c.in-Some-End.is ∙ ap (λ (h : Head). Some h) c.in-Some-End.field-0-is)
+    (λ t v m x z. never (cc))
 
-pub returns : goal.returns
-returns c =
+pub returns-in-None : goal.returns-in-None
+returns-in-None c =
     let a = c.args in
-    step_field a.at a.part.now (sym c.field_at-head.ensures ∙ c.in-Field.is)
-    (search rules)
+    step-stop a.at a.part.now None (sym c.field_at.ensures ∙ c.in-None.is) (λ t v m x z. never (cc))

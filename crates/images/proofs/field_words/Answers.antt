@@ -1,15 +1,18 @@
-use mathlib.Core.Path.{sym, ap}
+use Rattle.std.proofs.Common.{Some, sym, ap, ◌∙◌}
+use Rattle.fields.specs.declared.FieldPlace.{FieldPlace}
 use Rattle.images.specs.Image.{field_words}
 use Rattle.images.proofs.field_words.Goals as goal
 
-pub returns-in-Raw : goal.returns-in-Raw
+pub returns-in-Some-Raw : goal.returns-in-Some-Raw
 unfolding field_words
-returns-in-Raw c = sym (ap field_words c.in-Raw.is)
+returns-in-Some-Raw c =
+    let f = c.in-Some-Raw in sym (ap field_words (f.is ∙ ap (λ (p : FieldPlace). Some p) (rw f.is at f.field-0-is)))
 
-pub returns-in-Withdrawn : goal.returns-in-Withdrawn
+pub returns-in-Some-Withdrawn : goal.returns-in-Some-Withdrawn
 unfolding field_words
-returns-in-Withdrawn c = sym (ap field_words c.in-Withdrawn.is)
+returns-in-Some-Withdrawn c =
+    let f = c.in-Some-Withdrawn in sym (ap field_words (f.is ∙ ap (λ (p : FieldPlace). Some p) (rw f.is at f.field-0-is)))
 
-pub returns-in-Nothing : goal.returns-in-Nothing
+pub returns-in-None : goal.returns-in-None
 unfolding field_words
-returns-in-Nothing c = sym (ap field_words c.in-Nothing.is)
+returns-in-None c = sym (ap field_words c.in-None.is)

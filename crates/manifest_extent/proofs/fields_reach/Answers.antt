@@ -9,15 +9,15 @@ returns-then-plat-eq0 c = let a = c.args in (reach-none a.plat a.page.now (searc
 pub returns-in_default : goal.returns-in_default
 returns-in_default c =
     let a = c.args in (
-      reach-broken a.plat a.page.now (search rules) (sym c.scan_at-told.ensures ∙ c.in_default.is),
+      reach-broken a.plat a.page.now (search rules) (sym c.scan_at.ensures ∙ c.in_default.is),
       search rules,
     )
 
 pub returns-then-at-n : goal.returns-then-at-n
 returns-then-at-n c =
     let a = c.args in (
-      reach-past a.plat a.page.now (search rules) _ (sym c.scan_at-told.ensures ∙
-          c.in-Ended.is) (search rules),
+      reach-past a.plat a.page.now (search rules) _ (sym c.scan_at.ensures ∙
+          c.in-Some.is) (search rules),
       search rules,
     )
 
@@ -25,6 +25,6 @@ pub returns : goal.returns
 returns c =
     let a = c.args in (
       reach-ended a.plat a.page.now (search rules) _
-          (sym c.scan_at-told.ensures ∙ c.in-Ended.is) (search rules),
+          (sym c.scan_at.ensures ∙ c.in-Some.is) (search rules),
       search rules,
     )

@@ -16,7 +16,7 @@ returns-in_default c =
     let w = c.word_at-plat.ensures ∙ core-word a.page.now a.copied.now c.requires.1 8 (omega arith)
     (omega arith) in
     told-broken a.minor a.e.minor a.base a.page.now _ c.padding_at.ensures
-    c.if-padding_at-ne0.false _ w _ c.plat_end-told.ensures c.in_default.is
+    c.if-padding_at-ne0.false _ w _ c.plat_end.ensures c.in_default.is
 
 pub returns-then-not-sections_ok : goal.returns-then-not-sections_ok
 returns-then-not-sections_ok c =
@@ -24,7 +24,7 @@ returns-then-not-sections_ok c =
     let w = c.word_at-plat.ensures ∙
     core-word a.page.now a.copied.now c.requires.1 8 (omega arith) (omega arith) in
     told-each a.minor a.e.minor a.base a.page.now _ c.padding_at.ensures c.if-padding_at-ne0.false _ w _
-    c.plat_end-told.ensures _ c.in-Ended.is _
+    c.plat_end.ensures _ c.in-Some.is _
     c.sections-n.ensures.0 _ c.sections_ok.ensures (c.if-not-sections_ok.true)
 
 pub all_apart-requires : goal.all_apart-requires
@@ -49,8 +49,8 @@ returns-then-not-all_apart c =
     let d = c.all_apart.ensures ∙ core-apart a.page.now a.copied.now
     c.requires.1 _ c.sections-n.ensures.1 in
     told-apart a.minor a.e.minor a.base a.page.now _ c.padding_at.ensures
-    c.if-padding_at-ne0.false _ w _ c.plat_end-told.ensures _
-    c.in-Ended.is _
+    c.if-padding_at-ne0.false _ w _ c.plat_end.ensures _
+    c.in-Some.is _
     c.sections-n.ensures.0 _ c.sections_ok.ensures
     (c.if-not-sections_ok.false) _ d (c.if-not-all_apart.true)
 
@@ -62,8 +62,8 @@ overflow_add-end c =
     omega (
       arith,
       told-top a.minor a.e.minor a.base a.page.now _ c.padding_at.ensures
-          c.if-padding_at-ne0.false _ w _ c.plat_end-told.ensures _
-          c.in-Ended.is (search rules),
+          c.if-padding_at-ne0.false _ w _ c.plat_end.ensures _
+          c.in-Some.is (search rules),
     )
 
 pub returns : goal.returns
@@ -75,8 +75,8 @@ returns c =
     let e = c.all_clear.ensures ∙ core-clear a.page.now a.copied.now c.requires.1 _ _ _
     c.sections-n.ensures.1 in
     told-clear a.minor a.e.minor a.base a.page.now _ c.padding_at.ensures
-    c.if-padding_at-ne0.false _ w _ c.plat_end-told.ensures _
-    c.in-Ended.is _
+    c.if-padding_at-ne0.false _ w _ c.plat_end.ensures _
+    c.in-Some.is _
     c.sections-n.ensures.0 _
     c.sections_ok.ensures (c.if-not-sections_ok.false) _ d
     (c.if-not-all_apart.false) _ e

@@ -1,6 +1,6 @@
 use mathlib.Core.Path.{refl}
 use Rattle.fields.specs.Steps.{none_seen}
-use Rattle.fields.proofs.none_seen.Goals as goal
+use Rattle.fields.proofs.Seen.none.Goals as goal
 
 pub returns : goal.returns
 unfolding none_seen

@@ -4,30 +4,30 @@ use borrow.Author.Tests.{eq-eqb, ne_eqb}
 use Rattle.words.specs.Tests.{both, either}
 use Rattle.fields.specs.Steps.{is_seen}
 use Rattle.fields.proofs.Rules.{either-false}
-use Rattle.fields.proofs.is_seen.Goals as goal
+use Rattle.fields.proofs.Seen.has.Goals as goal
 
-pub returns-then-tag-eq-TAG_NAME : goal.returns-then-tag-eq-TAG_NAME
+pub returns-in-1 : goal.returns-in-1
 unfolding is_seen both either
-returns-then-tag-eq-TAG_NAME c =
+returns-in-1 c =
     let a = c.args in
     simp (eq-eqb a.tag 1 (search rules), ne_eqb a.tag 2 (search rules), ne_eqb a.tag 3 (search rules))
-    (sym (either-false a.seen.name))
+    (sym (either-false a.self.name))
 
-pub returns-then-tag-eq-TAG_SERIAL : goal.returns-then-tag-eq-TAG_SERIAL
+pub returns-in-2 : goal.returns-in-2
 unfolding is_seen both either
-returns-then-tag-eq-TAG_SERIAL c =
+returns-in-2 c =
     let a = c.args in
     simp (ne_eqb a.tag 1 (search rules), eq-eqb a.tag 2 (search rules), ne_eqb a.tag 3 (search rules))
-    (sym (either-false a.seen.serial))
+    (sym (either-false a.self.serial))
 
-pub returns-then-tag-eq-TAG_CONSOLE : goal.returns-then-tag-eq-TAG_CONSOLE
+pub returns-in-3 : goal.returns-in-3
 unfolding is_seen both either
-returns-then-tag-eq-TAG_CONSOLE c =
+returns-in-3 c =
     let a = c.args in
     simp (ne_eqb a.tag 1 (search rules), ne_eqb a.tag 2 (search rules), eq-eqb a.tag 3 (search rules))
 
-pub returns : goal.returns
+pub returns-in_default : goal.returns-in_default
 unfolding is_seen both either
-returns c =
+returns-in_default c =
     let a = c.args in
     simp (ne_eqb a.tag 1 (search rules), ne_eqb a.tag 2 (search rules), ne_eqb a.tag 3 (search rules))
