@@ -22,7 +22,7 @@ use Rattle.reader.specs.Reading.{section_of, shown_as, reading_answer}
 use Rattle.reader.specs.declared.Section.{Section}
 use Rattle.reader.specs.declared.Section.TheVariants.{Absent, Empty, Entries}
 use Rattle.reader.specs.declared.View.{View}
-use Rattle.reader.specs.declared.Reading.TheVariants.{Accepted}
+use Rattle.std.specs.Prelude.{Ok}
 use Rattle.lookup.specs.Fast.{word_of}
 use Rattle.lookup.proofs.Lookups.{word-there, word-unhidden}
 use Rattle.lookup.specs.Consoles.{has_name, first_from, console_named}
@@ -89,23 +89,23 @@ first-same zero i f g h = refl
 first-same (suc n) i f g h = rw (h i (omega arith) (omega arith), first-same n (i + 1) f g (λ k a b. h k (omega arith) (omega arith)))
 
 module _ (page : List ℕ) (v : View) where
-  console-word : (i : ℕ) → i < count_in (reading_answer page (Accepted v)) 1 →
-      word_at (48 * i + 16) (look_in (reading_answer page (Accepted v)) 1) ≡ word_in (reading_answer page (Accepted v)) 1 i 2
+  console-word : (i : ℕ) → i < count_in (reading_answer page (Ok v)) 1 →
+      word_at (48 * i + 16) (look_in (reading_answer page (Ok v)) 1) ≡ word_in (reading_answer page (Ok v)) 1 i 2
   unfolding look_in count_in word_in reading_answer word_of
   console-word i h = name-shown v.minor i (section_of v 1) page h
 
-  consoles-count : length (look_in (reading_answer page (Accepted v)) 1) / 48 ≡ count_in (reading_answer page (Accepted v)) 1
+  consoles-count : length (look_in (reading_answer page (Ok v)) 1) / 48 ≡ count_in (reading_answer page (Ok v)) 1
   unfolding look_in count_in entry_count words_per_entry reading_answer
   consoles-count = refl
 
   -- the first console of the array with a name is the first one of the view
-  pub array-named : (bs name : List ℕ) → bs ≡ look_in (reading_answer page (Accepted v)) 1 →
-      first_from (length bs / 48) 0 (named_at bs name) ≡ console_named (reading_answer page (Accepted v)) name
+  pub array-named : (bs name : List ℕ) → bs ≡ look_in (reading_answer page (Ok v)) 1 →
+      first_from (length bs / 48) 0 (named_at bs name) ≡ console_named (reading_answer page (Ok v)) name
   unfolding console_named has_name
   array-named bs name e =
       rw (e, consoles-count)
-      (first-same (count_in (reading_answer page (Accepted v)) 1) 0 (named_at (look_in (reading_answer page (Accepted v)) 1) name)
-      (λ i. eqb (word_in (reading_answer page (Accepted v)) 1 i 2) (word_at 0 name))
+      (first-same (count_in (reading_answer page (Ok v)) 1) 0 (named_at (look_in (reading_answer page (Ok v)) 1) name)
+      (λ i. eqb (word_in (reading_answer page (Ok v)) 1 i 2) (word_at 0 name))
       (λ k a b. ap (λ x. eqb x (word_at 0 name)) (console-word k (omega arith))))
 
 -- ---- a search that finds a console, and one that does not

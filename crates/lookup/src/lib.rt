@@ -11,7 +11,7 @@ ghost use Rattle.lookup.specs.Lookup.{span_of, span_in};
 ghost use Rattle.lookup.specs.Fast.{count_of, word_of};
 ghost use Rattle.lookup.specs.Consoles.{console_named};
 
-use reader::{Reading, Section, View};
+use reader::{Section, View};
 use words::Span;
 
 // Offset of the name in a console's entry.
@@ -52,14 +52,14 @@ pub fn place_in(room: usize, section: Section, k: usize) -> Span
 // whose entries are not within the page (RD15).
 pub fn place_of(page: &[u8], view: View, k: usize) -> Span
     ensures value { result ≡ span_of k (section_of view k) (length page.now) }
-    ensures page_value { spanned result page.now ≡ look_in (reading_answer page.now (Reading.Accepted view)) k }
+    ensures page_value { spanned result page.now ≡ look_in (reading_answer page.now (Ok view)) k }
 {
     place_in(page.len(), reader::section_of(view, k), k)
 }
 
 // The array of section `k` of a view, as a part of the page itself; empty if the section has no entries.
 pub fn array_of(page: &[u8], view: View, k: usize) -> &[u8]
-    ensures result_value { result.now ≡ look_in (reading_answer page.now (Reading.Accepted view)) k }
+    ensures result_value { result.now ≡ look_in (reading_answer page.now (Ok view)) k }
     ensures ref_ptr_value { result.ref_ptr ≡ on_from page.entry.ref_ptr (span_of k (section_of view k) (length page.now)).at }
 {
     words::part_of(page, place_of(page, view, k))
@@ -75,7 +75,7 @@ pub fn count_in(page: &[u8], section: Section, k: usize) -> usize
 
 // The number of entries of section `k` of a view.
 pub fn count_of(page: &[u8], view: View, k: usize) -> usize
-    ensures { result ≡ count_in (reading_answer page.now (Reading.Accepted view)) k }
+    ensures { result ≡ count_in (reading_answer page.now (Ok view)) k }
 {
     count_in(page, reader::section_of(view, k), k)
 }
@@ -130,14 +130,14 @@ pub fn word_in(page: &[u8], minor: u64, section: Section, k: usize, i: usize, j:
 
 // Word `j` of entry `i` of section `k` of a view, all numbered from 0; 0 if there is no such entry or word.
 pub fn word_of(page: &[u8], view: View, k: usize, i: usize, j: usize) -> u64
-    ensures { result ≡ word_in (reading_answer page.now (Reading.Accepted view)) k i j }
+    ensures { result ≡ word_in (reading_answer page.now (Ok view)) k i j }
 {
     word_in(page, view.minor, reader::section_of(view, k), k, i, j)
 }
 
 // The first console of a view whose 8 bytes of name equal `name`. The caller pads a shorter name with zeros.
 pub fn find_console(page: &[u8], view: View, name: &[u8; 8]) -> ConsoleFound
-    ensures { result ≡ console_named (reading_answer page.now (Reading.Accepted view)) name.now }
+    ensures { result ≡ console_named (reading_answer page.now (Ok view)) name.now }
 {
     let wanted = words::word_at(name, 0);
     let array = array_of(page, view, 1);

@@ -10,7 +10,7 @@ ghost use Rattle.text_lines.specs.Text.{word_text, entry_text, count_text, state
 ghost use Rattle.text_lines.specs.Laid.{Listed};
 ghost use Rattle.text_lines.specs.Steps.{seen, refusal_line, LaidOver};
 
-use reader::{Reading, Refusal, Section, View};
+use reader::{Refusal, Section, View};
 
 // Writes word `j` of an entry of section `k`: a console's name as bytes, any other word in hex.
 fn put_word(out: &mut [u8], at: usize, k: usize, j: usize, w: u64) -> usize
@@ -191,7 +191,7 @@ fn put_fields(out: &mut [u8], at: usize, page: &[u8], start: usize) -> usize
 
 // Writes the listing of an accepted page.
 fn put_view(out: &mut [u8], page: &[u8], view: View) -> usize
-    ensures { LaidOver 0 (listing_of (reading_answer page.now (Reading.Accepted view))) out.old result out.new }
+    ensures { LaidOver 0 (listing_of (reading_answer page.now (Ok view))) out.old result out.new }
 {
     let to = put_head(out, 0, view.minor, view.edition);
     let to = put_plat(out, to, view.plat);
