@@ -1,7 +1,7 @@
 -- When a boot succeeds, and what it then does. Each statement lists the conditions of BT2 or BT4 and uses no definition of the boot's
 -- checks. Assumes nothing.
 use Prim.Native.Nat.{ℕ, ◌^◌, min, ◌≤◌, ◌<◌}
-use mathlib.Core.Path.{◌≡◌, refl, sym, ap, ◌∙◌}
+use mathlib.Core.Path.{◌≡◌, refl, ap, ◌∙◌}
 use mathlib.Core.Bool.{Bool, true, false, false≢true, cond}
 use native.Mathlib.Omega.{arith}
 use mathlib.Core.List.{List}

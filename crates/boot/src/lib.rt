@@ -116,9 +116,9 @@ impl Record {
             (λ params. (cold_code self x0 x1 x2 x3 maxcpus kept page.now ≡ pos 0) × (params ≡ params_of x1 x2 x3 kept))
             (λ refusal. cold_code self x0 x1 x2 x3 maxcpus kept page.now ≡ refused_number refusal) }
     {
-        if !matches!(self, Record::Fresh) {
+        let Record::Fresh = self else {
             return Err(BootRefusal::State);
-        }
+        };
         if !versions::is_accepted(x1) {
             return Err(BootRefusal::Version);
         }
