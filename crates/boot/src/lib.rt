@@ -66,6 +66,7 @@ pub struct BootResult {
 }
 
 // The number of a boot's outcome: 0, or that of the refusal.
+// A function and no `From`, since neither `Result` nor `i32` is a type of this crate.
 pub fn number(code: Result<(), BootRefusal>) -> i32
     ensures { result ≡ boot_number code }
 {

@@ -16,14 +16,13 @@ use Rattle.entries.specs.Entry.{words_per_entry}
 use Rattle.lookup.specs.Consoles.{console_named}
 use Rattle.lookup.specs.Lookup.{span_of}
 use Rattle.lookup.specs.Fast.{count_of}
-use Rattle.lookup.specs.declared.ConsoleFound.TheVariants as found
+use Rattle.std.specs.Prelude.{Ok, Some, None}
 use Rattle.fields.specs.declared.FieldPlace.{FieldPlace}
 use Rattle.fields.specs.declared.FieldPlace.TheVariants as place
 use Rattle.lookup.proofs.Consoles.{console-at}
 use Rattle.lookup.proofs.Lookups.{count-view}
 use Rattle.reader.specs.Answer.{count_in}
 use Rattle.reader.specs.Reading.{section_of, reading_answer}
-use Rattle.std.specs.Prelude.{Ok}
 use Rattle.reader.specs.declared.Section.TheVariants.{Absent}
 use Rattle.reader.specs.declared.View.{View}
 use Rattle.runtime.specs.declared.Reply.TheVariants.{Forward, Back}
@@ -102,8 +101,8 @@ count_most page v =
 
 -- for any page that a caller can lend, of any length
 pub console-told : (page name : List ℕ) (v : View) (i : ℕ) → length page < 0x1_0000_0000_0000_0000 →
-    console_named (reading_answer page (Ok v)) name ≡ found.At i →
-    (console_number (found.At i) ≡ i) × (console_number (found.At i) ≡ console_number found.Nothing → ⊥)
+    console_named (reading_answer page (Ok v)) name ≡ Some i →
+    (console_number (Some i) ≡ i) × (console_number (Some i) ≡ console_number None → ⊥)
 unfolding console_number
 console-told page name v i h f =
     let l : i < count_in (reading_answer page (Ok v)) 1 = (console-at (reading_answer page (Ok v)) name i f).0 in

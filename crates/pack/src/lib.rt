@@ -32,7 +32,7 @@ pub fn number(packing: Packing) -> i32
 {
     match packing {
         Packing::Page => 0,
-        Packing::Refused(code) => reader::number(code),
+        Packing::Refused(code) => i32::from(code),
         Packing::Target => 1,
     }
 }

@@ -93,13 +93,13 @@ pub extern "C" fn pbeam_read(page: &[u8], base: u64, edition: u64, view: &mut [u
 {
     let mut core = [0u8; 112];
     match reader::judge(page, base, edition, &mut core) {
-        Ok(w) => {
-            show(&core, base, w, reader::edition_read(edition, w), view);
+        Ok(minor) => {
+            show(&core, base, minor, reader::edition_read(edition, minor), view);
             0
         }
         Err(code) => {
             *view = [0u64; 15];
-            reader::number(code)
+            i32::from(code)
         }
     }
 }

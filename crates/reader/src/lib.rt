@@ -13,6 +13,7 @@ ghost use Rattle.reader.specs.Fast.{verdict_of, number_in, section_read};
 use versions::Edition;
 
 // What is shown of a section (RD10): absent (not in the edition), empty (24 zero bytes), or `count` entries at offset `at` of the page.
+// Three states and no Option: the interface tells an absent section from an empty one (RD10, `Shown` in specs/Answer.antt).
 #[derive(Clone, Copy)]
 pub enum Section {
     Absent,
@@ -77,7 +78,7 @@ fn view_at(core: &[u8], base: u64, minor: u64, e: Edition) -> View
     ensures { result ≡ view_at minor e.minor base core.now }
 {
     View {
-        minor: minor,
+        minor,
         edition: e.minor,
         plat: words::word_at(core, sections::CORE_PLAT_DATA),
         dram: section_at(core, base, e, 0),
@@ -160,6 +161,7 @@ pub fn section_read(page: &[u8], base: u64, edition: u64, k: usize) -> Section
 }
 
 // Section `k` of a view. Absent if `k` is above 3.
+// A function: as a method of `View` it would read no plainer beside `section_read` and the lookups, which take the page first.
 pub fn section_of(view: View, k: usize) -> Section
     ensures { result ≡ section_of view k }
 {

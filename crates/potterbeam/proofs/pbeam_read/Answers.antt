@@ -19,7 +19,7 @@ show-requires c =
     (sym c.in-Ok.is ∙ c.judge.ensures.value) in
     let k = c.judge.ensures.by_index _ c.in-Ok.is in (
       search rules,
-      core-placed a.page.now _ k c.in-Ok.w
+      core-placed a.page.now _ k c.in-Ok.minor
           c.edition_read.result.minor a.base (rw c.edition_read.ensures f.1),
     )
 
@@ -30,7 +30,7 @@ returns-in-Ok c =
     (sym c.in-Ok.is ∙
     c.judge.ensures.value) in
     let v = core-view a.page.now _ (c.judge.ensures.by_index _
-    c.in-Ok.is) c.in-Ok.w
+    c.in-Ok.is) c.in-Ok.minor
     c.edition_read.result.minor a.base in
     let told = told-read a.edition a.base _ _ a.page.now c.edition_read.ensures f.2 _
     (c.show.ensures ∙ ap view_words v) in record { value = told.0; view_after = told.1 }
@@ -41,5 +41,5 @@ returns-in-Err c =
     let h = refused-reads a.edition a.base a.page.now _
     (sym c.in-Err.is ∙ c.judge.ensures.value) in
     let g = refused-answer a.edition a.base a.page.now _ h in
-    let q : to_z w32 (of_z w32 c.number.result) ≡ c.number.result = search rules in
-    record { value = q ∙ c.number.ensures ∙ g.0; view_after = g.1 }
+    let q : to_z w32 (of_z w32 c.from.result) ≡ c.from.result = search rules in
+    record { value = q ∙ c.from.ensures ∙ g.0; view_after = g.1 }
