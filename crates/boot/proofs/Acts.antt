@@ -1,7 +1,7 @@
 -- When a boot succeeds, and what it then does. Each statement lists the conditions of BT2 or BT4 and uses no definition of the boot's
 -- checks. Assumes nothing.
 use Prim.Native.Nat.{ℕ, ◌^◌, min, ◌≤◌, ◌<◌}
-use mathlib.Core.Path.{◌≡◌, refl, sym, ap, ◌∙◌}
+use mathlib.Core.Path.{◌≡◌, refl, ap, ◌∙◌}
 use mathlib.Core.Bool.{Bool, true, false, false≢true, cond}
 use native.Mathlib.Omega.{arith}
 use mathlib.Core.List.{List}
@@ -63,8 +63,8 @@ cold-only s x0 x1 x2 x3 most kept page h =
 
 -- Warm boot of a record that is up, with x0 below the cold boot's x2, returns 0 and the record unchanged. So "A CPU may warm boot twice."
 pub warm-acts : (u : Params) (x0 : ℕ) → x0 < u.cpus → (warm_code (Up u) x0 ≡ pos 0) × (warm_next (Up u) x0 ≡ Up u)
-unfolding warm_code warm_next
-warm-acts u x0 h = let k = kept-up u.cpus x0 (Up u) h in (sym k.0, sym k.1)
+unfolding warm_code warm_next after
+warm-acts u x0 h = let k = kept-up u.cpus x0 h in (k, ap (λ z. after z (Up u)) k)
 
 -- and only then
 cpu-passed : (b : Bool) → cond b (pos 0) (minus 4) ≡ pos 0 → b ≡ true

@@ -1,24 +1,28 @@
 -- Cold and warm boot. "The boot record is fresh, up or closed; it keeps x2, B and the agreed minor when up. Any boot
 -- error closes it for good." (BT1, BT6) Request E5: "Cold boot shall take a number K of kept bytes at the start of the page, and the boot
 -- record keeps it." (KB1) Assumes nothing.
-use Rattle.std.specs.Prelude.{ℕ, Bool, true, false, cond, List, leb, ltb, ℤ, pos, negsuc}
+use Rattle.std.specs.Prelude.{ℕ, Bool, true, false, cond, List, leb, ltb, ℤ, pos, negsuc, Result, Ok, Err, ⊤}
 use Rattle.versions.specs.Version.{version_ok, agreed}
 use Rattle.reader.specs.Answer.{minus, code_in, read_of}
 use Rattle.reader.specs.Reading.{refusal_number}
 use Rattle.boot.specs.declared.Params.{Params}
 use Rattle.boot.specs.declared.Record.{Record}
 use Rattle.boot.specs.declared.Record.TheVariants.{Fresh, Up, Closed}
-use Rattle.boot.specs.declared.BootCode.{BootCode}
-use Rattle.boot.specs.declared.BootCode.TheVariants.{Done, State, Version, Cpus, Cpu, Manifest}
+use Rattle.boot.specs.declared.BootRefusal.{BootRefusal}
+use Rattle.boot.specs.declared.BootRefusal.TheVariants.{State, Version, Cpus, Cpu, Manifest}
 
--- the number of each code (BT2)
-abbrev pub boot_number : BootCode → ℤ
-boot_number Done = pos 0
-boot_number State = minus 1
-boot_number Version = minus 2
-boot_number Cpus = minus 3
-boot_number Cpu = minus 4
-boot_number (Manifest c) = refusal_number c
+-- the number of each refusal (BT2)
+abbrev pub refused_number : BootRefusal → ℤ
+refused_number State = minus 1
+refused_number Version = minus 2
+refused_number Cpus = minus 3
+refused_number Cpu = minus 4
+refused_number (Manifest c) = refusal_number c
+
+-- the number of an outcome: 0, or that of the refusal (BT2)
+abbrev pub boot_number : Result ⊤ BootRefusal → ℤ
+boot_number (Ok u) = pos 0
+boot_number (Err c) = refused_number c
 
 -- whether the record is fresh
 unfoldable pub is_fresh : Record → Bool

@@ -1,11 +1,11 @@
 // Cold and warm boot: each checks the boot registers, cold boot also checks the manifest, and both return the next boot record.
 #![tactic(auto)]
 
-ghost use Rattle.std.specs.Prelude.{◌≡◌};
-ghost use Rattle.reader.specs.Fast.{number_in};
-ghost use Rattle.boot.specs.Boot.{boot_number, is_fresh, cold_code, cold_next, after, cpu_code, warm_code, warm_next};
+ghost use Rattle.std.specs.Prelude.{◌≡◌, pos, IfOk, IfErr, MatchResult};
+ghost use Rattle.boot.specs.Boot.{refused_number, boot_number, cold_code, params_of, cold_next, warm_code, warm_next};
+ghost use Rattle.boot.specs.declared.BootRefusal.TheVariants.{Manifest};
 
-use reader::Verdict;
+use reader::Refusal;
 
 // What a boot record keeps of its cold boot: x2 (`cpus`), the base B, the agreed interface minor, and K (`kept`). No runtime command writes
 // the first K bytes of the page (BT1, KB3).
@@ -25,78 +25,72 @@ pub enum Record {
     Closed,
 }
 
-// The outcome of a boot: success, or the first check that fails.
-#[derive(Clone, Copy)]
-pub enum BootCode {
-    Done,
+// The first check of a boot that fails.
+#[derive(Clone, Copy, Debug, PartialEq, Eq)]
+pub enum BootRefusal {
     State,
     Version,
     Cpus,
     Cpu,
-    Manifest(reader::Refusal),
+    Manifest(Refusal),
 }
 
-// The result of a boot: the next record and the code.
+impl From<Refusal> for BootRefusal {
+    ghost from_gives = { λ code refusal. refusal ≡ Manifest code };
+
+    fn from(code: Refusal) -> BootRefusal {
+        BootRefusal::Manifest(code)
+    }
+}
+
+// The number of a refusal, as C sees it: -1 to -4, or the manifest's code.
+impl From<BootRefusal> for i32 {
+    ghost from_gives = { λ refusal number. number ≡ refused_number refusal };
+
+    fn from(refusal: BootRefusal) -> i32 {
+        match refusal {
+            BootRefusal::State => -1,
+            BootRefusal::Version => -2,
+            BootRefusal::Cpus => -3,
+            BootRefusal::Cpu => -4,
+            BootRefusal::Manifest(code) => i32::from(code),
+        }
+    }
+}
+
+// The result of a boot: the next record, and how the boot went.
 #[derive(Clone, Copy)]
 pub struct BootResult {
     pub next: Record,
-    pub code: BootCode,
+    pub code: Result<(), BootRefusal>,
 }
 
-// Returns the number of a boot code: 0, -1 to -4, or the manifest's code.
-pub fn number(code: BootCode) -> i32
+// The number of a boot's outcome: 0, or that of the refusal.
+// A function and no `From`, since neither `Result` nor `i32` is a type of this crate.
+pub fn number(code: Result<(), BootRefusal>) -> i32
     ensures { result ≡ boot_number code }
 {
     match code {
-        BootCode::Done => 0,
-        BootCode::State => -1,
-        BootCode::Version => -2,
-        BootCode::Cpus => -3,
-        BootCode::Cpu => -4,
-        BootCode::Manifest(inner) => reader::number(inner),
+        Ok(()) => 0,
+        Err(refusal) => i32::from(refusal),
     }
 }
 
-fn is_fresh(state: Record) -> bool
-    ensures { result ≡ is_fresh state }
+// Ends a boot: with what its checks gave the record is up; if one failed it is closed for good (BT6).
+fn ended(checked: Result<Params, BootRefusal>) -> BootResult
+    ensures { MatchResult checked
+        (λ params. (result.next ≡ Record.Up params) × (boot_number result.code ≡ pos 0))
+        (λ refusal. (result.next ≡ Record.Closed) × (boot_number result.code ≡ refused_number refusal)) }
 {
-    match state {
-        Record::Fresh => true,
-        Record::Up(_) => false,
-        Record::Closed => false,
-    }
-}
-
-// Refuses a boot: the record is closed for good (BT6).
-fn failed(code: BootCode) -> BootResult
-    ensures { (result.next ≡ Record.Closed) × (result.code ≡ code) }
-{
-    BootResult {
-        next: Record::Closed,
-        code,
-    }
-}
-
-// Warm boot of CPU `x0` on a record that is up with `cpus` CPUs.
-fn warm_up(state: Record, cpus: u64, x0: u64) -> BootResult
-    ensures { (boot_number result.code ≡ cpu_code cpus x0) × (result.next ≡ after (cpu_code cpus x0) state) }
-{
-    if cpus <= x0 {
-        return failed(BootCode::Cpu);
-    }
-    BootResult {
-        next: state,
-        code: BootCode::Done,
-    }
-}
-
-// Returns the boot code of a verdict on the page: `Done` if the page is accepted.
-fn code_of(verdict: Verdict) -> BootCode
-    ensures { boot_number result ≡ number_in verdict }
-{
-    match verdict {
-        Verdict::Passed(_) => BootCode::Done,
-        Verdict::Refused(code) => BootCode::Manifest(code),
+    match checked {
+        Ok(up) => BootResult {
+            next: Record::Up(up),
+            code: Ok(()),
+        },
+        Err(refusal) => BootResult {
+            next: Record::Closed,
+            code: Err(refusal),
+        },
     }
 }
 
@@ -106,6 +100,45 @@ impl Record {
         ensures { result ≡ Record.Fresh }
     {
         Record::Fresh
+    }
+
+    // The checks of a cold boot, in order, and what the record keeps if all pass.
+    fn cold_checked(
+        self,
+        x0: u64,
+        x1: u64,
+        x2: u64,
+        x3: u64,
+        maxcpus: u64,
+        kept: u64,
+        page: &[u8],
+    ) -> Result<Params, BootRefusal>
+        ensures { MatchResult result
+            (λ params. (cold_code self x0 x1 x2 x3 maxcpus kept page.now ≡ pos 0) × (params ≡ params_of x1 x2 x3 kept))
+            (λ refusal. cold_code self x0 x1 x2 x3 maxcpus kept page.now ≡ refused_number refusal) }
+    {
+        let Record::Fresh = self else {
+            return Err(BootRefusal::State);
+        };
+        if !versions::is_accepted(x1) {
+            return Err(BootRefusal::Version);
+        }
+        if maxcpus < x2 {
+            return Err(BootRefusal::Cpus);
+        }
+        if x2 <= x0 {
+            return Err(BootRefusal::Cpu);
+        }
+        if words::PAGE_SIZE < kept {
+            return Err(BootRefusal::Manifest(Refusal::Place));
+        }
+        reader::judge_page(page, x3, 4)?;
+        Ok(Params {
+            cpus: x2,
+            base: x3,
+            minor: versions::agreed_minor(x1),
+            kept,
+        })
     }
 
     // Cold boot with x0 to x3 (BT2, BT3). The monitor supports at most `maxcpus` CPUs, the first `kept` bytes of the page are kept,
@@ -122,45 +155,28 @@ impl Record {
     ) -> BootResult
         ensures { (boot_number result.code ≡ cold_code self x0 x1 x2 x3 maxcpus kept page.now) × (result.next ≡ cold_next self x0 x1 x2 x3 maxcpus kept page.now) }
     {
-        if !is_fresh(self) {
-            return failed(BootCode::State);
-        }
-        if !versions::is_accepted(x1) {
-            return failed(BootCode::Version);
-        }
-        if maxcpus < x2 {
-            return failed(BootCode::Cpus);
-        }
-        if x2 <= x0 {
-            return failed(BootCode::Cpu);
-        }
-        if words::PAGE_SIZE < kept {
-            return failed(BootCode::Manifest(reader::Refusal::Place));
-        }
-        let verdict = reader::judge_page(page, x3, 4);
-        let Verdict::Passed(_) = verdict else {
-            return failed(code_of(verdict));
+        ended(self.cold_checked(x0, x1, x2, x3, maxcpus, kept, page))
+    }
+
+    // The checks of a warm boot of CPU `x0`, in order, and what the record keeps if both pass.
+    fn warm_checked(self, x0: u64) -> Result<Params, BootRefusal>
+        ensures { MatchResult result
+            (λ params. (warm_code self x0 ≡ pos 0) × (self ≡ Record.Up params))
+            (λ refusal. warm_code self x0 ≡ refused_number refusal) }
+    {
+        let Record::Up(params) = self else {
+            return Err(BootRefusal::State);
         };
-        let params = Params {
-            cpus: x2,
-            base: x3,
-            minor: versions::agreed_minor(x1),
-            kept,
-        };
-        BootResult {
-            next: Record::Up(params),
-            code: BootCode::Done,
+        if params.cpus <= x0 {
+            return Err(BootRefusal::Cpu);
         }
+        Ok(params)
     }
 
     // Warm boot with x0 to x3 (BT4); only x0 counts (BT5).
     pub fn warm(self, x0: u64, x1: u64, x2: u64, x3: u64) -> BootResult
         ensures { (boot_number result.code ≡ warm_code self x0) × (result.next ≡ warm_next self x0) }
     {
-        match self {
-            Record::Fresh => failed(BootCode::State),
-            Record::Up(params) => warm_up(self, params.cpus, x0),
-            Record::Closed => failed(BootCode::State),
-        }
+        ended(self.warm_checked(x0))
     }
 }

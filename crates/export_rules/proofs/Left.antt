@@ -6,7 +6,8 @@ use mathlib.Core.List.{List, [], ◌∷◌}
 use lib.ListN.{get_or}
 use lib.IntN.{ℤ}
 use Rattle.boot.specs.Boot.{boot_number, cold_code, cold_next}
-use Rattle.boot.specs.declared.BootCode.{BootCode}
+use Rattle.std.specs.Prelude.{Result, ⊤}
+use Rattle.boot.specs.declared.BootRefusal.{BootRefusal}
 use Rattle.boot.specs.declared.Record.{Record}
 use Rattle.codes.specs.Codes.{if_ok, answer_of}
 use Rattle.codes.specs.declared.Answer.{Answer}
@@ -45,7 +46,7 @@ pub told-token : (r k : Record) (page : List ℕ) (s l : Session) (b u : Bool) (
     (x : TokenStep) → x ≡ token_of k page l u token pa size c → x ≡ token_of r page s b token pa size c
 told-token r k page s l b u token pa size c e f g x h = h ∙ rw (e, f, g)
 
-pub told-cold : (r k : Record) (x0 x1 x2 x3 most kept : ℕ) (page : List ℕ) → k ≡ r → (c : BootCode) (next : Record) →
+pub told-cold : (r k : Record) (x0 x1 x2 x3 most kept : ℕ) (page : List ℕ) → k ≡ r → (c : Result ⊤ BootRefusal) (next : Record) →
     (boot_number c ≡ cold_code k x0 x1 x2 x3 most kept page) × (next ≡ cold_next k x0 x1 x2 x3 most kept page) → (n z : ℤ) → z ≡ n →
     n ≡ boot_number c → (image : List ℕ) → image ≡ record_words next →
     (z ≡ cold_code r x0 x1 x2 x3 most kept page) × (image ≡ record_words (cold_next r x0 x1 x2 x3 most kept page))

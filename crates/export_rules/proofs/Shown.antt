@@ -13,7 +13,7 @@ use Rattle.sections.specs.Page.{count_at, pointer_at}
 use Rattle.reader.specs.Answer.{code_in, read_of}
 use Rattle.reader.specs.Reading.{section_at, view_at, reading_of}
 use Rattle.reader.specs.declared.View.{View}
-use Rattle.reader.specs.declared.Reading.TheVariants.{Accepted}
+use Rattle.std.specs.Prelude.{Ok}
 use Rattle.reader.proofs.Whole.{section-entries}
 use Rattle.images.specs.Image.{tag_word, place_word, count_word, section_words, view_words, answer_words}
 use Rattle.images.proofs.Answers.{shown-answer}
@@ -26,7 +26,7 @@ unfolding section_words tag_word place_word count_word
 told_entries e base k core view h n p cn cp z after m =
     m ∙ rw (cp, cn) (ap (λ s. splice (3 + 3 * k) (section_words s) view) (section-entries e base k core h (λ y. z (cn ∙ y))))
 
-pub told-read : (r base w m : ℕ) (page : List ℕ) → m ≡ min r w → Accepted (view_at w (min r w) base page) ≡ reading_of r base page →
+pub told-read : (r base w m : ℕ) (page : List ℕ) → m ≡ min r w → Ok (view_at w (min r w) base page) ≡ reading_of r base page →
     (after : List ℕ) → after ≡ view_words (view_at w m base page) →
     (pos 0 ≡ code_in (read_of r base page)) × (after ≡ answer_words base page (read_of r base page))
 told-read r base w m page e f after h =

@@ -25,19 +25,19 @@ use Rattle.fields.proofs.Walks.{none_told, from_out, from_told}
 use Rattle.reader.specs.Answer.{fields_shown}
 use Rattle.reader.specs.Reading.{fields_of, reading_answer}
 use Rattle.reader.specs.declared.View.{View}
-use Rattle.reader.specs.declared.Reading.TheVariants.{Accepted}
+use Rattle.std.specs.Prelude.{Ok}
 use Rattle.field_lookup.specs.Fields.{no_field, field, first_in, rest_in, nth_in, shown_tag, shown_value, of_tag, value_in, field_as}
 use Rattle.field_lookup.specs.Fields.{place_span}
 use Rattle.field_lookup.specs.Steps.{shown_from, start_at, place_nth, search_ends, place_tagged, nth_place, tag_place, place_tag}
 
 -- ---- the fields of a view
-pub view_fields : (page : List ℕ) (v : View) → fields_shown (reading_answer page (Accepted v)) ≡ shown_fields
+pub view_fields : (page : List ℕ) (v : View) → fields_shown (reading_answer page (Ok v)) ≡ shown_fields
     (fields_in (fields_of v.plat page))
 unfolding fields_shown reading_answer
 view_fields page v = refl
 
 no_fields : (page : List ℕ) (v : View) (fs : List Field) → fields_in (fields_of v.plat page) ≡ fs →
-    shown_fields fs ≡ fields_shown (reading_answer page (Accepted v))
+    shown_fields fs ≡ fields_shown (reading_answer page (Ok v))
 no_fields page v fs h = sym (view_fields page v ∙ ap shown_fields h)
 
 fields-none : (q : ℕ) (page : List ℕ) → q ≡ 0 → fields_in (fields_of q page) ≡ []
@@ -77,7 +77,7 @@ module _ (page : List ℕ) (v : View) where
   start-there z n h = rw (ne_eqb v.plat 0 z, told-yes (scan_of (drop (v.plat % 4096) page)) n h)
 
   by-told : (v.plat ≡ 0 → ⊥) → (d : Option ℕ) → end_told (scan_of (drop (v.plat % 4096) page)) ≡ d →
-      shown_from (start_at v.plat page) page ≡ fields_shown (reading_answer page (Accepted v))
+      shown_from (start_at v.plat page) page ≡ fields_shown (reading_answer page (Ok v))
   unfolding shown_from
   by-told z None h =
       rw (← start-broken z h)
@@ -90,11 +90,11 @@ module _ (page : List ℕ) (v : View) where
       sym (from_told (v.plat % 4096) page n h)))
 
   -- the walk passes the fields that are shown
-  pub started : shown_from (start_at v.plat page) page ≡ fields_shown (reading_answer page (Accepted v))
+  pub started : shown_from (start_at v.plat page) page ≡ fields_shown (reading_answer page (Ok v))
   unfolding shown_from
   started = go (dec_lt 0 v.plat)
     where
-      go : Dec (0 < v.plat) → shown_from (start_at v.plat page) page ≡ fields_shown (reading_answer page (Accepted v))
+      go : Dec (0 < v.plat) → shown_from (start_at v.plat page) page ≡ fields_shown (reading_answer page (Ok v))
       go (yes n) = by-told (λ z. omega arith) (end_told (scan_of (drop (v.plat % 4096) page))) refl
       go (no n) =
           let z : v.plat ≡ 0 = omega arith in
@@ -107,17 +107,17 @@ module _ (page : List ℕ) (v : View) where
   shown-length [] = refl
   shown-length (f ∷ fs) = ap suc (shown-length fs)
 
-  by_count : (s : Scanned) → fields_of v.plat page ≡ s → length (fields_in s) ≡ length (fields_shown (reading_answer page (Accepted v)))
+  by_count : (s : Scanned) → fields_of v.plat page ≡ s → length (fields_in s) ≡ length (fields_shown (reading_answer page (Ok v)))
   by_count s h = sym (ap length (view_fields page v) ∙ shown-length (fields_in (fields_of v.plat page)) ∙ ap (λ x. length (fields_in x)) h)
 
-  pub count_none : v.plat ≡ 0 → 0 ≡ length (fields_shown (reading_answer page (Accepted v)))
+  pub count_none : v.plat ≡ 0 → 0 ≡ length (fields_shown (reading_answer page (Ok v)))
   count_none z = sym (ap length (fields-none v.plat page z)) ∙ by_count (fields_of v.plat page) refl
 
   pub count-there : (v.plat ≡ 0 → ⊥) → length (fields_in (scan_of (drop (v.plat % 4096) page))) ≡ length
-      (fields_shown (reading_answer page (Accepted v)))
+      (fields_shown (reading_answer page (Ok v)))
   count-there z = by_count (scan_of (drop (v.plat % 4096) page)) (fields-some v.plat page z)
 
-  pub count-out : (v.plat ≡ 0 → ⊥) → length page < v.plat % 4096 → 0 ≡ length (fields_shown (reading_answer page (Accepted v)))
+  pub count-out : (v.plat ≡ 0 → ⊥) → length page < v.plat % 4096 → 0 ≡ length (fields_shown (reading_answer page (Ok v)))
   count-out z h =
       sym (ap length (none_told (scan_of (drop (v.plat % 4096) page)) (told-out (v.plat % 4096) page (omega arith)))) ∙ count-there z
 
@@ -226,7 +226,7 @@ nth-shown zero at page = (step-shown at page).0
 nth-shown (suc i) at page = nth-shown i (step_at at page).next page ∙ ap (nth_in i) (step-shown at page).1
 
 pub nth-place : (i : ℕ) (v : View) (page : List ℕ) → field_as (nth_place i v page) page ≡ nth_in i
-    (fields_shown (reading_answer page (Accepted v)))
+    (fields_shown (reading_answer page (Ok v)))
 unfolding nth_place
 nth-place i v page = nth-shown i (start_at v.plat page) page ∙ ap (nth_in i) (started page v)
 
@@ -286,7 +286,7 @@ tag-shown zero t at page h = tag_one t at page (λ x e. absurd (let z : ⊥ = om
 tag-shown (suc n) t at page h = tag_one t at page (λ x e. tag-shown n t x page (omega arith)) (is_none (step_at at page).field) refl
 
 pub tag-place : (t : ℕ) (v : View) (page : List ℕ) → field_as (tag_place t v page) page ≡ of_tag t
-    (fields_shown (reading_answer page (Accepted v)))
+    (fields_shown (reading_answer page (Ok v)))
 unfolding tag_place
 tag-place t v page =
     tag-shown (length (shown_from (start_at v.plat page) page)) t (start_at v.plat page) page refl ∙ ap (of_tag t) (started page v)

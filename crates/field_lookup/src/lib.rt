@@ -10,14 +10,14 @@ ghost use Rattle.field_lookup.specs.Fields.{first_in, rest_in, nth_in, of_tag, v
 ghost use Rattle.field_lookup.specs.Steps.{search_ends, shown_from, start_at, nth_place, tag_place, place_tag};
 
 use fields::{FieldPlace, FieldStep};
-use reader::{Reading, View};
+use reader::View;
 use words::Span;
 
 // The cursor at the first field of a view. It is the page's length if the view has no pointer, or if a hand-written view points at broken
 // fields.
 pub fn fields_start(page: &[u8], view: View) -> usize
     ensures value { result ≡ start_at view.plat page.now }
-    ensures page_value { shown_from result page.now ≡ fields_shown (reading_answer page.now (Reading.Accepted view)) }
+    ensures page_value { shown_from result page.now ≡ fields_shown (reading_answer page.now (Ok view)) }
 {
     let plat = view.plat;
     if plat == 0 {
@@ -41,7 +41,7 @@ pub fn field_next(page: &[u8], cursor: usize) -> FieldStep
 
 // The number of fields that a view shows.
 pub fn field_count(page: &[u8], view: View) -> usize
-    ensures { result ≡ length (fields_shown (reading_answer page.now (Reading.Accepted view))) }
+    ensures { result ≡ length (fields_shown (reading_answer page.now (Ok view))) }
 {
     let plat = view.plat;
     if plat == 0 {
@@ -57,7 +57,7 @@ pub fn field_count(page: &[u8], view: View) -> usize
 // Field `i` of a view, in page order; `None` if there is no such field.
 pub fn field_of(page: &[u8], view: View, i: usize) -> Option<FieldPlace>
     ensures value { result ≡ nth_place i view page.now }
-    ensures page_value { field_as result page.now ≡ nth_in i (fields_shown (reading_answer page.now (Reading.Accepted view))) }
+    ensures page_value { field_as result page.now ≡ nth_in i (fields_shown (reading_answer page.now (Ok view))) }
 {
     let mut cursor = fields_start(page, view);
     for _ in 0..i {
@@ -81,7 +81,7 @@ fn tag_of(field: FieldPlace) -> u8
 // The first field of a view with this tag: 1 is the board name, 2 the serial, 3 the withdrawn field.
 pub fn field_of_tag(page: &[u8], view: View, tag: u8) -> Option<FieldPlace>
     ensures value { result ≡ tag_place tag view page.now }
-    ensures page_value { field_as result page.now ≡ of_tag tag (fields_shown (reading_answer page.now (Reading.Accepted view))) }
+    ensures page_value { field_as result page.now ≡ of_tag tag (fields_shown (reading_answer page.now (Ok view))) }
 {
     let mut cursor = fields_start(page, view);
     loop {

@@ -7,8 +7,8 @@ use lib.IntN.{pos}
 use Rattle.reader.specs.Answer.{code_in, read_of}
 use Rattle.reader.specs.Reading.{refusal_number, reading_answer, view_at, reading_of}
 use Rattle.reader.specs.declared.Refusal.{Refusal}
-use Rattle.reader.specs.declared.Reading.{Reading}
-use Rattle.reader.specs.declared.Reading.TheVariants.{Accepted, Refused}
+use Rattle.std.specs.Prelude.{Result, Ok, Err}
+use Rattle.reader.specs.declared.View.{View}
 use Rattle.reader.proofs.Whole.{reading-answer}
 use Rattle.writer_rules.specs.Write.{Made}
 use Rattle.writer_rules.specs.Wrote.{made_by as made_of}
@@ -18,15 +18,15 @@ use Rattle.images.specs.Image.{view_words, answer_words, made_number, wrote_numb
 
 -- ---- the reader's answer
 module _ (e base : ℕ) (page : List ℕ) where
-  answer : (r : Reading) → r ≡ reading_of e base page → reading_answer page r ≡ read_of e base page
+  answer : (r : Result View Refusal) → r ≡ reading_of e base page → reading_answer page r ≡ read_of e base page
   answer r h = ap (reading_answer page) h ∙ reading-answer e base page
 
-  pub shown-answer : (w v : ℕ) → Accepted (view_at w v base page) ≡ reading_of e base page →
+  pub shown-answer : (w v : ℕ) → Ok (view_at w v base page) ≡ reading_of e base page →
       (pos 0 ≡ code_in (read_of e base page)) × (view_words (view_at w v base page) ≡ answer_words base page (read_of e base page))
   unfolding code_in answer_words reading_answer view_at
   shown-answer w v h = rw (← answer _ h) (refl, refl)
 
-  pub refused-answer : (c : Refusal) → Refused c ≡ reading_of e base page →
+  pub refused-answer : (c : Refusal) → Err c ≡ reading_of e base page →
       (refusal_number c ≡ code_in (read_of e base page)) × (replicate 15 0 ≡ answer_words base page (read_of e base page))
   unfolding code_in answer_words reading_answer
   refused-answer c h = rw (← answer _ h) (refl, refl)

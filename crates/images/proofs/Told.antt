@@ -16,15 +16,13 @@ use Rattle.entries.specs.Entry.{words_per_entry}
 use Rattle.lookup.specs.Consoles.{console_named}
 use Rattle.lookup.specs.Lookup.{span_of}
 use Rattle.lookup.specs.Fast.{count_of}
-use Rattle.lookup.specs.declared.ConsoleFound.TheVariants as found
-use Rattle.std.proofs.Common.{Option, Some, None}
+use Rattle.std.specs.Prelude.{Ok, Option, Some, None}
 use Rattle.fields.specs.declared.FieldPlace.{FieldPlace}
 use Rattle.fields.specs.declared.FieldPlace.TheVariants as place
 use Rattle.lookup.proofs.Consoles.{console-at}
 use Rattle.lookup.proofs.Lookups.{count-view}
 use Rattle.reader.specs.Answer.{count_in}
 use Rattle.reader.specs.Reading.{section_of, reading_answer}
-use Rattle.reader.specs.declared.Reading.TheVariants.{Accepted}
 use Rattle.reader.specs.declared.Section.TheVariants.{Absent}
 use Rattle.reader.specs.declared.View.{View}
 use Rattle.runtime.specs.declared.Reply.TheVariants.{Forward, Back}
@@ -94,7 +92,7 @@ part-most true at n s h =
     omega (arith, length-take-le n (drop at s) (omega (arith, length-drop at s)))
 part-most false at n s h = omega arith
 
-count_most : (page : List ℕ) (v : View) → count_in (reading_answer page (Accepted v)) 1 ≤ length page / 24
+count_most : (page : List ℕ) (v : View) → count_in (reading_answer page (Ok v)) 1 ≤ length page / 24
 unfolding count_of spanned words_per_entry
 count_most page v =
     let p = span_of 1 (section_of v 1) (length page) in
@@ -103,11 +101,11 @@ count_most page v =
 
 -- for any page that a caller can lend, of any length
 pub console-told : (page name : List ℕ) (v : View) (i : ℕ) → length page < 0x1_0000_0000_0000_0000 →
-    console_named (reading_answer page (Accepted v)) name ≡ found.At i →
-    (console_number (found.At i) ≡ i) × (console_number (found.At i) ≡ console_number found.Nothing → ⊥)
+    console_named (reading_answer page (Ok v)) name ≡ Some i →
+    (console_number (Some i) ≡ i) × (console_number (Some i) ≡ console_number None → ⊥)
 unfolding console_number
 console-told page name v i h f =
-    let l : i < count_in (reading_answer page (Accepted v)) 1 = (console-at (reading_answer page (Accepted v)) name i f).0 in
+    let l : i < count_in (reading_answer page (Ok v)) 1 = (console-at (reading_answer page (Ok v)) name i f).0 in
     let m = count_most page v in
     (refl, λ e. omega arith)
 

@@ -10,8 +10,6 @@ use Rattle.codes.specs.declared.Work.{Work}
 use Rattle.codes.specs.declared.Work.TheVariants.{Nothing, Reprogram}
 use Rattle.fields.specs.declared.FieldPlace.{FieldPlace}
 use Rattle.fields.specs.declared.FieldPlace.TheVariants as place
-use Rattle.lookup.specs.declared.ConsoleFound.{ConsoleFound}
-use Rattle.lookup.specs.declared.ConsoleFound.TheVariants as found
 use Rattle.reader.specs.Answer.{ReaderAnswer, refused, shows}
 use Rattle.reader.specs.Reading.{view_at}
 use Rattle.reader.specs.declared.Section.{Section}
@@ -144,9 +142,9 @@ field_words (Some place.Withdrawn) = 2 ∷ 3 ∷ 0 ∷ 0 ∷ []
 field_words None = 0 ∷ 0 ∷ 0 ∷ 0 ∷ []
 
 -- ---- the result of a console lookup by name: its index, or 2^64 - 1 if no console has the name
-unfoldable pub console_number : ConsoleFound → ℕ
-console_number (found.At i) = i
-console_number found.Nothing = 0xFFFF_FFFF_FFFF_FFFF
+unfoldable pub console_number : Option ℕ → ℕ
+console_number (Some i) = i
+console_number None = 0xFFFF_FFFF_FFFF_FFFF
 
 -- ---- the dispatcher's reply: the result registers, which are zero for 0xC400018F; and what the platform must do, where 2 means to forward
 -- an error code to the Non-secure world

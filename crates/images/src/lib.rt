@@ -12,7 +12,6 @@ ghost use Rattle.images.specs.Realm.{number_x0, number_words, hit_x0, hit_words,
 use boot::{Params, Record};
 use codes::{Answer, Code, Work};
 use fields::FieldPlace;
-use lookup::ConsoleFound;
 use reader::{Section, View};
 use realm_words::{Agreement, Hit, Number};
 use token::Session;
@@ -198,13 +197,10 @@ pub fn field_words(field: Option<FieldPlace>) -> [u64; 4]
 }
 
 // The index of the console that a lookup by name found, or 2^64 - 1 if there is no such console.
-pub fn console_number(found: ConsoleFound) -> usize
+pub fn console_number(found: Option<usize>) -> usize
     ensures { result ≡ console_number found }
 {
-    match found {
-        ConsoleFound::At(i) => i,
-        ConsoleFound::Nothing => 0xFFFF_FFFF_FFFF_FFFF,
-    }
+    found.unwrap_or(usize::MAX)
 }
 
 // x0 of a count of Realm granules: OK or INVAL.

@@ -25,8 +25,8 @@ use Rattle.reader.specs.Fast.{section_read}
 use Rattle.reader.specs.declared.Section.{Section}
 use Rattle.reader.specs.declared.Section.TheVariants.{Absent, Empty, Entries}
 use Rattle.reader.specs.declared.View.{View}
-use Rattle.reader.specs.declared.Reading.{Reading}
-use Rattle.reader.specs.declared.Reading.TheVariants.{Accepted, Refused}
+use Rattle.std.specs.Prelude.{Result, Ok, Err}
+use Rattle.reader.specs.declared.Refusal.{Refusal}
 use Rattle.reader.proofs.Whole.{reading-answer, reading-placed}
 use Rattle.lookup.specs.Lookup.{span_of, span_in}
 use Rattle.lookup.specs.Fast.{count_of, word_of}
@@ -56,7 +56,7 @@ span-shown w k (Entries at count) page =
     some-there (leb (at + size k count) (length page)) at (size k count) (shown_words w k (words_at k count at page)) page refl
 
 pub place_view : (page : List ℕ) (v : View) (k : ℕ) → spanned (span_of k (section_of v k) (length page)) page ≡ look_in
-    (reading_answer page (Accepted v)) k
+    (reading_answer page (Ok v)) k
 unfolding look_in reading_answer
 place_view page v k = span-shown v.minor k (section_of v k) page
 
@@ -64,7 +64,7 @@ pub count-shown : (w k : ℕ) (s : Section) (page : List ℕ) → count_of k s p
 unfolding count_of entry_count
 count-shown w k s page = rw (span-shown w k s page)
 
-pub count-view : (page : List ℕ) (v : View) (k : ℕ) → count_of k (section_of v k) page ≡ count_in (reading_answer page (Accepted v)) k
+pub count-view : (page : List ℕ) (v : View) (k : ℕ) → count_of k (section_of v k) page ≡ count_in (reading_answer page (Ok v)) k
 unfolding count_in reading_answer
 count-view page v k = count-shown v.minor k (section_of v k) page
 
@@ -178,30 +178,30 @@ pub word-place : (i count j w : ℕ) → i < count → j < w → w * i + j < w *
 word-place i count j w h l = omega (arith, mul-suc w i, mul-le-mul_left w h)
 
 pub word-view : (page : List ℕ) (v : View) (k i j : ℕ) →
-    word_of v.minor k i j (section_of v k) page ≡ word_in (reading_answer page (Accepted v)) k i j
+    word_of v.minor k i j (section_of v k) page ≡ word_in (reading_answer page (Ok v)) k i j
 unfolding word_of word_in reading_answer
 word-view page v k i j = refl
 
 pub told-view : (page : List ℕ) (v : View) (k i j : ℕ) (s : Section) → s ≡ section_of v k → (r : ℕ) → r ≡ word_of v.minor k i j s page →
-    r ≡ word_in (reading_answer page (Accepted v)) k i j
+    r ≡ word_in (reading_answer page (Ok v)) k i j
 told-view page v k i j s e r h = h ∙ rw e (word-view page v k i j)
 
 -- ---- the lookup of a page
 module _ (r base k : ℕ) (page : List ℕ) where
-  answer-of : (x : Reading) → x ≡ reading_of r base page → reading_answer page x ≡ read_of r base page
+  answer-of : (x : Result View Refusal) → x ≡ reading_of r base page → reading_answer page x ≡ read_of r base page
   answer-of x h = ap (reading_answer page) h ∙ reading-answer r base page
 
   -- the section that is read alone, by the reading
-  place-by : (x : Reading) → x ≡ reading_of r base page →
+  place-by : (x : Result View Refusal) → x ≡ reading_of r base page →
       (span_of k (section_read x k) (length page) ≡ span_in base page (read_of r base page) k) ×
       (spanned (span_of k (section_read x k) (length page)) page ≡ look_of r base page k)
   unfolding look_of look_in span_of span_in reading_answer section_read
-  place-by (Accepted v) h =
-      let g = answer-of (Accepted v) h in
+  place-by (Ok v) h =
+      let g = answer-of (Ok v) h in
       let p : span_of k (section_of v k) (length page) ≡ span_in base page (read_of r base page) k = ap
       (λ x. span_of k (section_of x k) (length page)) (reading-placed r base page v h) ∙ ap (λ x. span_in base page x k) g in
       (p, place_view page v k ∙ ap (λ x. look_in x k) g)
-  place-by (Refused c) h = rw (← answer-of (Refused c) h) (refl, span_none page)
+  place-by (Err c) h = rw (← answer-of (Err c) h) (refl, span_none page)
 
   pub place_read : (span_of k (section_read (reading_of r base page) k) (length page) ≡ span_in base page (read_of r base page) k) ×
       (spanned (span_of k (section_read (reading_of r base page) k) (length page)) page ≡ look_of r base page k)

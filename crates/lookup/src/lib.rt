@@ -11,28 +11,21 @@ ghost use Rattle.lookup.specs.Lookup.{span_of, span_in};
 ghost use Rattle.lookup.specs.Fast.{count_of, word_of};
 ghost use Rattle.lookup.specs.Consoles.{console_named};
 
-use reader::{Reading, Section, View};
+use reader::{Section, View};
 use words::Span;
 
 // Offset of the name in a console's entry.
 const CONSOLE_NAME_AT: usize = 16;
 
-// The result of a search for a console: its index, or `Nothing` if no console has the name.
-#[derive(Clone, Copy)]
-pub enum ConsoleFound {
-    At(usize),
-    Nothing,
-}
+// The span of an array without entries.
+const EMPTY: Span = Span { at: 0, len: 0 };
 
 // The span of `count` entries of section `k` at `at` in a page of `room` bytes; empty if they are not within the page.
 fn place_at(room: usize, k: usize, at: usize, count: usize) -> Span
     ensures { result ≡ span_of k (Section.Entries at count) room }
 {
-    if room < at {
-        return Span { at: 0, len: 0 };
-    }
-    if !entries::fits(k, count as u64, (room - at) as u64) {
-        return Span { at: 0, len: 0 };
+    if room < at || !entries::fits(k, count as u64, (room - at) as u64) {
+        return EMPTY;
     }
     words::span_at(at, 8 * (entries::entry_words(k) * count))
 }
@@ -42,8 +35,7 @@ pub fn place_in(room: usize, section: Section, k: usize) -> Span
     ensures { result ≡ span_of k section room }
 {
     match section {
-        Section::Absent => Span { at: 0, len: 0 },
-        Section::Empty => Span { at: 0, len: 0 },
+        Section::Absent | Section::Empty => EMPTY,
         Section::Entries { at, count } => place_at(room, k, at, count),
     }
 }
@@ -52,14 +44,14 @@ pub fn place_in(room: usize, section: Section, k: usize) -> Span
 // whose entries are not within the page (RD15).
 pub fn place_of(page: &[u8], view: View, k: usize) -> Span
     ensures value { result ≡ span_of k (section_of view k) (length page.now) }
-    ensures page_value { spanned result page.now ≡ look_in (reading_answer page.now (Reading.Accepted view)) k }
+    ensures page_value { spanned result page.now ≡ look_in (reading_answer page.now (Ok view)) k }
 {
     place_in(page.len(), reader::section_of(view, k), k)
 }
 
 // The array of section `k` of a view, as a part of the page itself; empty if the section has no entries.
 pub fn array_of(page: &[u8], view: View, k: usize) -> &[u8]
-    ensures result_value { result.now ≡ look_in (reading_answer page.now (Reading.Accepted view)) k }
+    ensures result_value { result.now ≡ look_in (reading_answer page.now (Ok view)) k }
     ensures ref_ptr_value { result.ref_ptr ≡ on_from page.entry.ref_ptr (span_of k (section_of view k) (length page.now)).at }
 {
     words::part_of(page, place_of(page, view, k))
@@ -75,7 +67,7 @@ pub fn count_in(page: &[u8], section: Section, k: usize) -> usize
 
 // The number of entries of section `k` of a view.
 pub fn count_of(page: &[u8], view: View, k: usize) -> usize
-    ensures { result ≡ count_in (reading_answer page.now (Reading.Accepted view)) k }
+    ensures { result ≡ count_in (reading_answer page.now (Ok view)) k }
 {
     count_in(page, reader::section_of(view, k), k)
 }
@@ -84,13 +76,7 @@ pub fn count_of(page: &[u8], view: View, k: usize) -> usize
 fn is_hidden(minor: u64, k: usize, j: usize) -> bool
     ensures { result ≡ is_hidden minor k j }
 {
-    if k != 1 {
-        return false;
-    }
-    if j != 5 {
-        return false;
-    }
-    4 < minor
+    k == 1 && j == 5 && 4 < minor
 }
 
 // Word `j` of entry `i`, unchanged, of `count` entries of section `k` at `at`; 0 if there is no such word. This is what a page of minor 0
@@ -99,16 +85,10 @@ fn word_at(page: &[u8], k: usize, at: usize, count: usize, i: usize, j: usize) -
     ensures { result ≡ word_of 0 k i j (Section.Entries at count) page.now }
 {
     let step = entries::entry_words(k);
-    if step <= j {
+    if step <= j || count <= i {
         return 0;
     }
-    if count <= i {
-        return 0;
-    }
-    if page.len() < at {
-        return 0;
-    }
-    if !entries::fits(k, count as u64, (page.len() - at) as u64) {
+    if page.len() < at || !entries::fits(k, count as u64, (page.len() - at) as u64) {
         return 0;
     }
     words::word_at(page, at + 8 * (step * i + j))
@@ -122,35 +102,26 @@ pub fn word_in(page: &[u8], minor: u64, section: Section, k: usize, i: usize, j:
         return 0;
     }
     match section {
-        Section::Absent => 0,
-        Section::Empty => 0,
+        Section::Absent | Section::Empty => 0,
         Section::Entries { at, count } => word_at(page, k, at, count, i, j),
     }
 }
 
 // Word `j` of entry `i` of section `k` of a view, all numbered from 0; 0 if there is no such entry or word.
 pub fn word_of(page: &[u8], view: View, k: usize, i: usize, j: usize) -> u64
-    ensures { result ≡ word_in (reading_answer page.now (Reading.Accepted view)) k i j }
+    ensures { result ≡ word_in (reading_answer page.now (Ok view)) k i j }
 {
     word_in(page, view.minor, reader::section_of(view, k), k, i, j)
 }
 
-// The first console of a view whose 8 bytes of name equal `name`. The caller pads a shorter name with zeros.
-pub fn find_console(page: &[u8], view: View, name: &[u8; 8]) -> ConsoleFound
-    ensures { result ≡ console_named (reading_answer page.now (Reading.Accepted view)) name.now }
+// The index of the first console of a view whose 8 bytes of name equal `name`, if any. The caller pads a shorter name with zeros.
+pub fn find_console(page: &[u8], view: View, name: &[u8; 8]) -> Option<usize>
+    ensures { result ≡ console_named (reading_answer page.now (Ok view)) name.now }
 {
     let wanted = words::word_at(name, 0);
-    let array = array_of(page, view, 1);
-    let count = array.len() / entries::CONSOLE_LEN;
-    for i in 0..count {
-        let from = entries::CONSOLE_LEN * i;
-        let end = from + entries::CONSOLE_LEN;
-        let console = &array[from..end];
-        if words::whole_word(console, CONSOLE_NAME_AT) == wanted {
-            return ConsoleFound::At(i);
-        }
-    }
-    ConsoleFound::Nothing
+    array_of(page, view, 1)
+        .chunks_exact(entries::CONSOLE_LEN)
+        .position(|console| words::whole_word(console, CONSOLE_NAME_AT) == wanted)
 }
 
 // The span of the array of section `k` in a page at `base`, as a reader of `edition` finds it. Empty if the page is refused or the section

@@ -138,7 +138,7 @@ pub fn number(mended: Mended) -> i32
 {
     match mended {
         Mended::Done(_) => 0,
-        Mended::Refused(code) => reader::number(code),
+        Mended::Refused(code) => i32::from(code),
     }
 }
 

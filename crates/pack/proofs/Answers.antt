@@ -22,7 +22,7 @@ use Rattle.reader.specs.Answer.{Shown, PlatShown, shows, minus, read_of}
 use Rattle.reader.specs.Reading.{refusal_number, reading_answer, view_at, reading_of}
 use Rattle.reader.specs.Fast.{verdict_of}
 use Rattle.reader.specs.declared.Refusal.{Refusal}
-use Rattle.reader.specs.declared.Verdict.TheVariants as verdict
+use Rattle.std.specs.Prelude.{Ok, Err}
 use Rattle.reader.proofs.Whole.{reading-answer, refused-reads, fine-reads}
 use Rattle.writer_checks.specs.Description.{Description, used}
 use Rattle.writer_rules.specs.Write.{no-page, a-page, page_of}
@@ -143,14 +143,14 @@ module _ (base : ℕ) (page : List ℕ) (w : ℕ) (early : w ≤ 4) (n : length 
 
 -- ---- by the verdict on the page
 module _ (base : ℕ) (page : List ℕ) where
-  pub refused-packs : (n : ℕ) (c : Refusal) → verdict.Refused c ≡ verdict_of (reading_of 4 base page) →
+  pub refused-packs : (n : ℕ) (c : Refusal) → Err c ≡ verdict_of (reading_of 4 base page) →
       pack_of base n page ≡ stopped (refusal_number c)
   unfolding reading_answer
   refused-packs n c h =
       pack-stops base n page (refusal_number c) (sym (reading-answer 4 base page) ∙
       ap (reading_answer page) (sym (refused-reads 4 base page c h)))
 
-  module _ (w : ℕ) (h : verdict.Passed w ≡ verdict_of (reading_of 4 base page)) where
+  module _ (w : ℕ) (h : Ok w ≡ verdict_of (reading_of 4 base page)) where
     fine-shown : {P : Type 0} → ((e : ℕ) (q : PlatShown) (s : ℕ → Shown) → read_of 4 base page ≡ shows w e q s → P) → P
     unfolding reading_answer view_at
     fine-shown k = k _ _ _ (sym (reading-answer 4 base page) ∙ ap (reading_answer page) (sym (fine-reads 4 base page w h).2))

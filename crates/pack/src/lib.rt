@@ -15,7 +15,7 @@ ghost use Rattle.pack.specs.Pack.{pack_of, packed_by, target_after, packing_numb
 ghost use Rattle.pack.specs.Steps.{array_words_in, Movable, section_moved, fields_place, kept_from, shown_description_at};
 
 use fields::FieldPlace;
-use reader::{Refusal, Verdict};
+use reader::Refusal;
 use versions::Edition;
 
 // `Page` if a page was made, otherwise why not: the reader's refusal of the page, or `Target` if the target is not 4,096 bytes long (W1).
@@ -32,7 +32,7 @@ pub fn number(packing: Packing) -> i32
 {
     match packing {
         Packing::Page => 0,
-        Packing::Refused(code) => reader::number(code),
+        Packing::Refused(code) => i32::from(code),
         Packing::Target => 1,
     }
 }
@@ -195,8 +195,8 @@ pub fn pack(page: &[u8], base: u64, target: &mut [u8]) -> Packing
 {
     let mut core = [0u8; 112];
     match reader::judge(page, base, 4, &mut core) {
-        Verdict::Refused(code) => Packing::Refused(code),
-        Verdict::Passed(minor) => {
+        Err(code) => Packing::Refused(code),
+        Ok(minor) => {
             if 4 < minor {
                 return Packing::Refused(Refusal::Version);
             }

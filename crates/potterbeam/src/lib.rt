@@ -9,7 +9,6 @@ ghost use Rattle.sections.specs.Page.{count_at, pointer_at};
 ghost use Rattle.words.specs.Tests.{Yes};
 ghost use Rattle.reader.specs.Answer.{code_in, count_in, word_in, fields_shown, read_of};
 ghost use Rattle.reader.specs.Reading.{section_of, reading_answer, section_at, view_at};
-ghost use Rattle.reader.specs.declared.Reading.TheVariants.{Accepted};
 ghost use Rattle.fields.specs.Steps.{step_at};
 ghost use Rattle.lookup.specs.Lookup.{span_of, span_in};
 ghost use Rattle.field_lookup.specs.Fields.{first_in, rest_in, nth_in, of_tag, field_as};
@@ -38,7 +37,6 @@ ghost use Rattle.export_rules.specs.Exports.{TokenLeft, token_in, SigningLeft, s
 
 use boot::Record;
 use codes::Code;
-use reader::Verdict;
 use runtime::Kind;
 use versions::Edition;
 
@@ -95,13 +93,13 @@ pub extern "C" fn pbeam_read(page: &[u8], base: u64, edition: u64, view: &mut [u
 {
     let mut core = [0u8; 112];
     match reader::judge(page, base, edition, &mut core) {
-        Verdict::Passed(w) => {
-            show(&core, base, w, reader::edition_read(edition, w), view);
+        Ok(minor) => {
+            show(&core, base, minor, reader::edition_read(edition, minor), view);
             0
         }
-        Verdict::Refused(code) => {
+        Err(code) => {
             *view = [0u64; 15];
-            reader::number(code)
+            i32::from(code)
         }
     }
 }
@@ -138,7 +136,7 @@ pub extern "C" fn pbeam_array_of(
 // The number of entries in a view's section.
 #[unsafe(no_mangle)]
 pub extern "C" fn pbeam_count(page: &[u8], view: &[u64; 15], section: usize) -> usize
-    ensures { result ≡ count_in (reading_answer page.now (Accepted (view_of view.now))) section }
+    ensures { result ≡ count_in (reading_answer page.now (Ok (view_of view.now))) section }
 {
     lookup::count_in(page, images::section_of(view, section), section)
 }
@@ -152,7 +150,7 @@ pub extern "C" fn pbeam_word(
     entry: usize,
     word: usize,
 ) -> u64
-    ensures { result ≡ word_in (reading_answer page.now (Accepted (view_of view.now))) section entry word }
+    ensures { result ≡ word_in (reading_answer page.now (Ok (view_of view.now))) section entry word }
 {
     let wanted = images::section_of(view, section);
     lookup::word_in(page, view[0], wanted, section, entry, word)
@@ -161,7 +159,7 @@ pub extern "C" fn pbeam_word(
 // The index of the view's first console with these 8 bytes of name, or 2^64 - 1 if no console has them.
 #[unsafe(no_mangle)]
 pub extern "C" fn pbeam_console_named(page: &[u8], view: &[u64; 15], name: &[u8; 8]) -> usize
-    ensures { result ≡ console_number (console_named (reading_answer page.now (Accepted (view_of view.now))) name.now) }
+    ensures { result ≡ console_number (console_named (reading_answer page.now (Ok (view_of view.now))) name.now) }
 {
     images::console_number(lookup::find_console(page, images::view_of(view), name))
 }
@@ -169,7 +167,7 @@ pub extern "C" fn pbeam_console_named(page: &[u8], view: &[u64; 15], name: &[u8;
 // The number of fields that a view shows.
 #[unsafe(no_mangle)]
 pub extern "C" fn pbeam_field_count(page: &[u8], view: &[u64; 15]) -> usize
-    ensures { result ≡ length (fields_shown (reading_answer page.now (Accepted (view_of view.now)))) }
+    ensures { result ≡ length (fields_shown (reading_answer page.now (Ok (view_of view.now)))) }
 {
     field_lookup::field_count(page, images::view_of(view))
 }
@@ -179,7 +177,7 @@ pub extern "C" fn pbeam_field_count(page: &[u8], view: &[u64; 15]) -> usize
 pub extern "C" fn pbeam_field(page: &[u8], view: &[u64; 15], index: usize, field: &mut [u64; 4])
     ensures field_after { field.new ≡ field_words (nth_place index (view_of view.now) page.now) }
     ensures page_value { field_as (nth_place index (view_of view.now) page.now) page.now
-        ≡ nth_in index (fields_shown (reading_answer page.now (Accepted (view_of view.now)))) }
+        ≡ nth_in index (fields_shown (reading_answer page.now (Ok (view_of view.now)))) }
 {
     *field = images::field_words(field_lookup::field_of(page, images::view_of(view), index));
 }
@@ -189,7 +187,7 @@ pub extern "C" fn pbeam_field(page: &[u8], view: &[u64; 15], index: usize, field
 pub extern "C" fn pbeam_field_of_tag(page: &[u8], view: &[u64; 15], tag: u8, field: &mut [u64; 4])
     ensures field_after { field.new ≡ field_words (tag_place tag (view_of view.now) page.now) }
     ensures page_value { field_as (tag_place tag (view_of view.now) page.now) page.now
-        ≡ of_tag tag (fields_shown (reading_answer page.now (Accepted (view_of view.now)))) }
+        ≡ of_tag tag (fields_shown (reading_answer page.now (Ok (view_of view.now)))) }
 {
     *field = images::field_words(field_lookup::field_of_tag(page, images::view_of(view), tag));
 }
@@ -198,7 +196,7 @@ pub extern "C" fn pbeam_field_of_tag(page: &[u8], view: &[u64; 15], tag: u8, fie
 #[unsafe(no_mangle)]
 pub extern "C" fn pbeam_field_start(page: &[u8], view: &[u64; 15]) -> usize
     ensures value { result ≡ start_at (view_of view.now).plat page.now }
-    ensures page_value { shown_from result page.now ≡ fields_shown (reading_answer page.now (Accepted (view_of view.now))) }
+    ensures page_value { shown_from result page.now ≡ fields_shown (reading_answer page.now (Ok (view_of view.now))) }
 {
     field_lookup::fields_start(page, images::view_of(view))
 }

@@ -6,6 +6,7 @@ use mathlib.Core.List.{List, []}
 use native.Mathlib.Omega.{arith}
 use native.Mathlib.Decide.{dec_lt}
 use lib.ListN.{length}
+use Rattle.std.specs.Prelude.{Result, Ok, Err}
 use lib.Dec.{leb, eqb}
 use borrow.Author.Tests.{leb-true, ltb-true, le-leb, lt-ltb, le-ltb, eq-eqb, ne_eqb}
 use Rattle.words.specs.Tests.{Yes, both}
@@ -31,10 +32,6 @@ use Rattle.reader.specs.declared.Section.TheVariants.{Absent, Empty, Entries}
 use Rattle.reader.specs.declared.View.{View}
 use Rattle.reader.specs.declared.Refusal.{Refusal}
 use Rattle.reader.specs.declared.Refusal.TheVariants.{Place, Version, Rules}
-use Rattle.reader.specs.declared.Reading.{Reading}
-use Rattle.reader.specs.declared.Reading.TheVariants.{Accepted, Refused}
-use Rattle.reader.specs.declared.Verdict.{Verdict}
-use Rattle.reader.specs.declared.Verdict.TheVariants.{Passed, Refused as Wrong}
 
 -- ---- what is shown of one section
 module _ (w e base k : ℕ) (page : List ℕ) where
@@ -122,7 +119,7 @@ fields_view e base q page m h =
     h
 
 view-shows : (w e base : ℕ) (page : List ℕ) → Yes (place_ok base (length page)) → rules_at w e base page ≡ true →
-    reading_answer page (Accepted (view_at w e base page)) ≡ all_shown w e (platform_at base page) (page_section_at base page)
+    reading_answer page (Ok (view_at w e base page)) ≡ all_shown w e (platform_at base page) (page_section_at base page)
 unfolding reading_answer all_shown plat_shown platform_at page_platform view_at
 view-shows w e base page p t =
     let n = placed base (length page) p in
@@ -138,7 +135,7 @@ view-shows w e base page p t =
     (fields_view e base (word_at 8 page) page n.2 (rules-pointer w e base page t))
 
 -- ---- what the enum means
-gate-answer : (page : List ℕ) (p v o : Bool) (u : View) (a : ReaderAnswer) → (Yes p → Yes o → reading_answer page (Accepted u) ≡ a) →
+gate-answer : (page : List ℕ) (p v o : Bool) (u : View) (a : ReaderAnswer) → (Yes p → Yes o → reading_answer page (Ok u) ≡ a) →
     reading_answer page (reading_gate p v o u) ≡ reader_gate p v o a
 unfolding reading_answer reading_gate reader_gate
 gate-answer page true true true u a h = h refl refl
@@ -146,11 +143,11 @@ gate-answer page true true false u a h = refl
 gate-answer page true false o u a h = refl
 gate-answer page false v o u a h = refl
 
-view_in : Reading → View → View
-view_in (Accepted v) u = v
-view_in (Refused c) u = u
+view_in : Result View Refusal → View → View
+view_in (Ok v) u = v
+view_in (Err c) u = u
 
-gate-view : (p q o : Bool) (u v : View) → Accepted v ≡ reading_gate p q o u → v ≡ u
+gate-view : (p q o : Bool) (u v : View) → Ok v ≡ reading_gate p q o u → v ≡ u
 unfolding reading_gate view_in
 gate-view true true true u v h = ap (λ x. view_in x u) h
 gate-view true true false u v h = ap (λ x. view_in x u) h
@@ -158,25 +155,25 @@ gate-view true false o u v h = ap (λ x. view_in x u) h
 gate-view false q o u v h = ap (λ x. view_in x u) h
 
 -- ---- what the verdict implies for the reading
-abbrev is_passed : Verdict → Bool
-is_passed (Passed w) = true
-is_passed (Wrong c) = false
+abbrev is_passed : Result ℕ Refusal → Bool
+is_passed (Ok w) = true
+is_passed (Err c) = false
 
-abbrev minor_in : Verdict → ℕ
-minor_in (Passed w) = w
-minor_in (Wrong c) = 0
+abbrev minor_in : Result ℕ Refusal → ℕ
+minor_in (Ok w) = w
+minor_in (Err c) = 0
 
-abbrev code_or : Verdict → Refusal
-code_or (Passed w) = Rules
-code_or (Wrong c) = c
+abbrev code_or : Result ℕ Refusal → Refusal
+code_or (Ok w) = Rules
+code_or (Err c) = c
 
-verdict-refused : (c : Refusal) (x : Reading) → Wrong c ≡ verdict_of x → Refused c ≡ x
+verdict-refused : (c : Refusal) (x : Result View Refusal) → Err c ≡ verdict_of x → Err c ≡ x
 unfolding verdict_of
-verdict-refused c (Refused d) h = ap (λ v. Refused (code_or v)) h
-verdict-refused c (Accepted v) h = absurd (true≢false (sym (ap is_passed h)))
+verdict-refused c (Err d) h = ap (λ v. Err (code_or v)) h
+verdict-refused c (Ok v) h = absurd (true≢false (sym (ap is_passed h)))
 
-gate-fine : (p q o : Bool) (u : View) (w : ℕ) → Passed w ≡ verdict_of (reading_gate p q o u) →
-    (Yes p) × (Yes o) × (w ≡ u.minor) × (Accepted u ≡ reading_gate p q o u)
+gate-fine : (p q o : Bool) (u : View) (w : ℕ) → Ok w ≡ verdict_of (reading_gate p q o u) →
+    (Yes p) × (Yes o) × (w ≡ u.minor) × (Ok u ≡ reading_gate p q o u)
 unfolding reading_gate verdict_of
 gate-fine true true true u w h = (refl, refl, ap minor_in h, refl)
 gate-fine true true false u w h = absurd (true≢false (ap is_passed h))
@@ -184,28 +181,28 @@ gate-fine true false o u w h = absurd (true≢false (ap is_passed h))
 gate-fine false q o u w h = absurd (true≢false (ap is_passed h))
 
 module _ (r base : ℕ) (page : List ℕ) where
-  pub refused-reads : (c : Refusal) → Wrong c ≡ verdict_of (reading_of r base page) → Refused c ≡ reading_of r base page
+  pub refused-reads : (c : Refusal) → Err c ≡ verdict_of (reading_of r base page) → Err c ≡ reading_of r base page
   refused-reads c h = verdict-refused c (reading_of r base page) h
 
-  -- a page with verdict `Passed` has 4,096 bytes, keeps its rules and is shown
-  pub fine-reads : (w : ℕ) → Passed w ≡ verdict_of (reading_of r base page) →
-      (length page ≡ 4096) × (rules_at w (min r w) base page ≡ true) × (Accepted (view_at w (min r w) base page) ≡ reading_of r base page)
+  -- a page with verdict `Ok` has 4,096 bytes, keeps its rules and is shown
+  pub fine-reads : (w : ℕ) → Ok w ≡ verdict_of (reading_of r base page) →
+      (length page ≡ 4096) × (rules_at w (min r w) base page ≡ true) × (Ok (view_at w (min r w) base page) ≡ reading_of r base page)
   unfolding reading_of view_at
   fine-reads w h =
       let g = gate-fine _ _ _ _ w h in
       rw g.2 ((placed base (length page) g.0).0, g.1, g.3)
 
   -- its sections are those of the page
-  pub fine-section : (w k : ℕ) → Passed w ≡ verdict_of (reading_of r base page) →
+  pub fine-section : (w k : ℕ) → Ok w ≡ verdict_of (reading_of r base page) →
       section_at (min r w) base page k ≡ section_read (reading_of r base page) k
   unfolding section_read
   fine-section w k h = sym (section-view w (min r w) base page k) ∙ ap (λ x. section_read x k) (fine-reads w h).2
 
-  pub told-section : (w k e : ℕ) → e ≡ min r w → (v : Verdict) → v ≡ verdict_of (reading_of r base page) → v ≡ Passed w → (s : Section) →
+  pub told-section : (w k e : ℕ) → e ≡ min r w → (v : Result ℕ Refusal) → v ≡ verdict_of (reading_of r base page) → v ≡ Ok w → (s : Section) →
       s ≡ section_at e base page k → s ≡ section_read (reading_of r base page) k
   told-section w k e ce v cv h s q = q ∙ rw ce (fine-section w k (sym h ∙ cv))
 
-  pub refused-section : (c : Refusal) (k : ℕ) → Wrong c ≡ verdict_of (reading_of r base page) → Absent ≡ section_read (reading_of r base page) k
+  pub refused-section : (c : Refusal) (k : ℕ) → Err c ≡ verdict_of (reading_of r base page) → Absent ≡ section_read (reading_of r base page) k
   unfolding section_read
   refused-section c k h = ap (λ x. section_read x k) (refused-reads c h)
 
@@ -215,7 +212,7 @@ module _ (r base : ℕ) (page : List ℕ) where
   reading-answer = gate-answer page _ _ _ _ _ (λ p o. view-shows _ _ base page p o)
 
   -- the view of an accepted page has the offsets that the page's own pointers give
-  pub reading-placed : (v : View) → Accepted v ≡ reading_of r base page → v ≡ view_at v.minor v.edition base page
+  pub reading-placed : (v : View) → Ok v ≡ reading_of r base page → v ≡ view_at v.minor v.edition base page
   unfolding reading_of view_at
   reading-placed v h =
       let e = gate-view _ _ _ _ v h in
@@ -240,50 +237,50 @@ section-told r base page k s h = (
 )
 
 -- ---- the number of a verdict is the code of the answer
-number_read : (page : List ℕ) (x : Reading) → number_in (verdict_of x) ≡ code_in (reading_answer page x)
+number_read : (page : List ℕ) (x : Result View Refusal) → number_in (verdict_of x) ≡ code_in (reading_answer page x)
 unfolding number_in verdict_of code_in reading_answer
-number_read page (Accepted v) = refl
-number_read page (Refused c) = refl
+number_read page (Ok v) = refl
+number_read page (Err c) = refl
 
-pub verdict-told : (r base : ℕ) (page : List ℕ) (v : Verdict) → v ≡ verdict_of (reading_of r base page) →
+pub verdict-told : (r base : ℕ) (page : List ℕ) (v : Result ℕ Refusal) → v ≡ verdict_of (reading_of r base page) →
     (v ≡ verdict_of (reading_of r base page)) × (number_in v ≡ code_in (read_of r base page))
 verdict-told r base page v h = (h, ap number_in h ∙ number_read page (reading_of r base page) ∙ ap code_in (reading-answer r base page))
 
 -- ---- a verdict with the judged core of the page, if it is accepted
 module _ (r base : ℕ) (page core : List ℕ) where
-  pub judged-refused : (c : Refusal) → Wrong c ≡ verdict_of (reading_of r base page) →
-      (Wrong c ≡ verdict_of (reading_of r base page)) × ((number_in (Wrong c) ≡ code_in (read_of r base page)) ×
-      ((w : ℕ) → Wrong c ≡ Passed w → Copied core page))
-  judged-refused c h = let t = verdict-told r base page (Wrong c) h in (t.0, (t.1, λ w f. absurd (true≢false (ap is_passed (sym f)))))
+  pub judged-refused : (c : Refusal) → Err c ≡ verdict_of (reading_of r base page) →
+      (Err c ≡ verdict_of (reading_of r base page)) × ((number_in (Err c) ≡ code_in (read_of r base page)) ×
+      ((w : ℕ) → Err c ≡ Ok w → Copied core page))
+  judged-refused c h = let t = verdict-told r base page (Err c) h in (t.0, (t.1, λ w f. absurd (true≢false (ap is_passed (sym f)))))
 
-  pub judged-fine : (v : Verdict) → v ≡ verdict_of (reading_of r base page) → Copied core page →
-      (v ≡ verdict_of (reading_of r base page)) × ((number_in v ≡ code_in (read_of r base page)) × ((w : ℕ) → v ≡ Passed w → Copied core page))
+  pub judged-fine : (v : Result ℕ Refusal) → v ≡ verdict_of (reading_of r base page) → Copied core page →
+      (v ≡ verdict_of (reading_of r base page)) × ((number_in v ≡ code_in (read_of r base page)) × ((w : ℕ) → v ≡ Ok w → Copied core page))
   judged-fine v h g = let t = verdict-told r base page v h in (t.0, (t.1, λ w f. g))
 
 -- ---- the reader's enum, return by return
 module _ (r base : ℕ) (page : List ℕ) where
-  pub read-place : place_ok base (length page) ≡ false → Refused Place ≡ reading_of r base page
+  pub read-place : place_ok base (length page) ≡ false → Err Place ≡ reading_of r base page
   unfolding reading_of reading_gate
   read-place h = rw h
 
   module _ (h : place_ok base (length page) ≡ true) where
-    pub read-edition : edition_ok r ≡ false → Refused Version ≡ reading_of r base page
+    pub read-edition : edition_ok r ≡ false → Err Version ≡ reading_of r base page
     unfolding reading_of reading_gate both
     read-edition g = rw (h, g)
 
     module _ (g : edition_ok r ≡ true) where
-      pub read-version : version_ok (version_at page) ≡ false → Refused Version ≡ reading_of r base page
+      pub read-version : version_ok (version_at page) ≡ false → Err Version ≡ reading_of r base page
       unfolding reading_of reading_gate both
       read-version v = rw (h, g, v)
 
       module _ (v : version_ok (version_at page) ≡ true) where
         pub read-rules : rules_at (minor_of (version_at page)) (min r (minor_of (version_at page))) base page ≡ false →
-            Refused Rules ≡ reading_of r base page
+            Err Rules ≡ reading_of r base page
         unfolding reading_of reading_gate both
         read-rules o = rw (h, g, v, o)
 
         pub read-shows : rules_at (minor_of (version_at page)) (min r (minor_of (version_at page))) base page ≡ true →
-            Accepted (view_at (minor_of (version_at page)) (min r (minor_of (version_at page))) base page) ≡ reading_of r base page
+            Ok (view_at (minor_of (version_at page)) (min r (minor_of (version_at page))) base page) ≡ reading_of r base page
         unfolding reading_of reading_gate both
         read-shows o = rw (h, g, v, o)
 
@@ -294,13 +291,13 @@ module _ (r base : ℕ) (page : List ℕ) where
           unfolding both
           was-rules b q = rw (← cw, ← ce) (sym (rw h at cz) ∙ q)
 
-          pub told-rules : z ≡ false → Wrong Rules ≡ verdict_of (reading_of r base page)
+          pub told-rules : z ≡ false → Err Rules ≡ verdict_of (reading_of r base page)
           unfolding verdict_of
           told-rules q = ap verdict_of (read-rules (was-rules false q))
 
-          pub told-fine : z ≡ true → Passed w ≡ verdict_of (reading_of r base page)
+          pub told-fine : z ≡ true → Ok w ≡ verdict_of (reading_of r base page)
           unfolding verdict_of view_at
-          told-fine q = ap Passed cw ∙ ap verdict_of (read-shows (was-rules true q))
+          told-fine q = ap Ok cw ∙ ap verdict_of (read-shows (was-rules true q))
 
 pub section-none : (v : View) (k : ℕ) → 3 < k → section_of v k ≡ Absent
 unfolding section_of

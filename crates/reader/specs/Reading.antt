@@ -1,5 +1,5 @@
 -- What the reader's enums mean: the numbers and values of docs/RULES.md, given the page that was read. Assumes nothing.
-use Rattle.std.specs.Prelude.{ℕ, zero, suc, ◌+◌, ◌-◌, ◌%◌, min, Bool, true, false, cond, List, [], length, drop, leb, ltb, eqb, ℤ}
+use Rattle.std.specs.Prelude.{ℕ, zero, suc, ◌+◌, ◌-◌, ◌%◌, min, Bool, true, false, cond, List, [], length, drop, leb, ltb, eqb, ℤ, Result, Ok, Err}
 use Rattle.words.specs.Tests.{both}
 use Rattle.words.specs.Word.{part, word_at}
 use Rattle.versions.specs.Version.{minor_of, version_ok}
@@ -15,8 +15,6 @@ use Rattle.reader.specs.declared.Section.TheVariants.{Absent, Empty, Entries}
 use Rattle.reader.specs.declared.View.{View}
 use Rattle.reader.specs.declared.Refusal.{Refusal}
 use Rattle.reader.specs.declared.Refusal.TheVariants.{Place, Version, Rules}
-use Rattle.reader.specs.declared.Reading.{Reading}
-use Rattle.reader.specs.declared.Reading.TheVariants.{Accepted, Refused}
 
 -- the code of a refusal (RD2)
 abbrev pub refusal_number : Refusal → ℤ
@@ -45,9 +43,9 @@ unfoldable pub fields_of : ℕ → List ℕ → Scanned
 fields_of q page = cond (eqb q 0) (ended [] 0) (scan_of (drop (q % 4096) page))
 
 -- the answer that a reading means, given its page
-unfoldable pub reading_answer : List ℕ → Reading → ReaderAnswer
-reading_answer page (Refused c) = refused (refusal_number c)
-reading_answer page (Accepted v) =
+unfoldable pub reading_answer : List ℕ → Result View Refusal → ReaderAnswer
+reading_answer page (Err c) = refused (refusal_number c)
+reading_answer page (Ok v) =
     shows v.minor v.edition (record { pointer = v.plat; fields = shown_fields (fields_in (fields_of v.plat page)) })
     (λ k. shown_as v.minor k (section_of v k) page)
 
@@ -72,14 +70,14 @@ view_at w e base page =
 
 -- ---- the reader's result
 -- the checks in the order of docs/RULES.md, as in `reader_gate`
-unfoldable pub reading_gate : Bool → Bool → Bool → View → Reading
-reading_gate true true true v = Accepted v
-reading_gate true true false v = Refused Rules
-reading_gate true false o v = Refused Version
-reading_gate false a o v = Refused Place
+unfoldable pub reading_gate : Bool → Bool → Bool → View → Result View Refusal
+reading_gate true true true v = Ok v
+reading_gate true true false v = Err Rules
+reading_gate true false o v = Err Version
+reading_gate false a o v = Err Place
 
 -- the reading of a reader of edition r at base B; law `reading-answer` proves that it means `read_of`
-unfoldable pub reading_of : ℕ → ℕ → List ℕ → Reading
+unfoldable pub reading_of : ℕ → ℕ → List ℕ → Result View Refusal
 reading_of r base page =
     reading_gate (place_ok base (length page)) (both (edition_ok r) (version_ok (version_at page)))
     (rules_at (minor_of (version_at page)) (min r (minor_of (version_at page))) base page)

@@ -9,11 +9,11 @@ ghost use Rattle.sections.specs.Steps.{Copied};
 ghost use Rattle.reader.specs.Answer.{code_in, shown_in, read_of};
 ghost use Rattle.reader.specs.Reading.{shown_as, reading_answer, refusal_number, section_of, section_at, view_at, reading_of};
 ghost use Rattle.reader.specs.Fast.{verdict_of, number_in, section_read};
-ghost use Rattle.reader.specs.declared.Verdict.TheVariants.{Passed};
 
 use versions::Edition;
 
 // What is shown of a section (RD10): absent (not in the edition), empty (24 zero bytes), or `count` entries at offset `at` of the page.
+// Three states and no Option: the interface tells an absent section from an empty one (RD10, `Shown` in specs/Answer.antt).
 #[derive(Clone, Copy)]
 pub enum Section {
     Absent,
@@ -34,35 +34,23 @@ pub struct View {
 }
 
 // Why a page is refused: length or base (-5), edition or version (-6), any other rule (-7).
-#[derive(Clone, Copy)]
+#[derive(Clone, Copy, Debug, PartialEq, Eq)]
 pub enum Refusal {
     Place,
     Version,
     Rules,
 }
 
-// A reader's answer: the view of an accepted page, or why the page is refused.
-#[derive(Clone, Copy)]
-pub enum Reading {
-    Accepted(View),
-    Refused(Refusal),
-}
+// The number of a refusal, as C sees it.
+impl From<Refusal> for i32 {
+    ghost from_gives = { λ code number. number ≡ refusal_number code };
 
-// The verdict alone: the minor of an accepted page, or why the page is refused.
-#[derive(Clone, Copy)]
-pub enum Verdict {
-    Passed(u64),
-    Refused(Refusal),
-}
-
-// The number of a refusal: -5, -6 or -7.
-pub fn number(code: Refusal) -> i32
-    ensures { result ≡ refusal_number code }
-{
-    match code {
-        Refusal::Place => -5,
-        Refusal::Version => -6,
-        Refusal::Rules => -7,
+    fn from(code: Refusal) -> i32 {
+        match code {
+            Refusal::Place => -5,
+            Refusal::Version => -6,
+            Refusal::Rules => -7,
+        }
     }
 }
 
@@ -90,7 +78,7 @@ fn view_at(core: &[u8], base: u64, minor: u64, e: Edition) -> View
     ensures { result ≡ view_at minor e.minor base core.now }
 {
     View {
-        minor: minor,
+        minor,
         edition: e.minor,
         plat: words::word_at(core, sections::CORE_PLAT_DATA),
         dram: section_at(core, base, e, 0),
@@ -112,31 +100,31 @@ pub fn edition_read(edition: u64, minor: u64) -> Edition
 // Checks a lent page at `base` as a reader of `edition` (RD1, RD2). Returns the page's minor, or the first refusal in the order of the
 // checks. If the page is accepted, `core` holds the core that was judged (`sections::judge`): a caller takes count, pointer and platform
 // pointer from there, not from the page.
-pub fn judge(page: &[u8], base: u64, edition: u64, core: &mut [u8; 112]) -> Verdict
+pub fn judge(page: &[u8], base: u64, edition: u64, core: &mut [u8; 112]) -> Result<u64, Refusal>
     ensures value { result ≡ verdict_of (reading_of edition base page.now) }
     ensures result_value { number_in result ≡ code_in (read_of edition base page.now) }
-    ensures by_index { (w : ℕ) → result ≡ Passed w → Copied core.new page.now }
+    ensures by_index { (w : ℕ) → result ≡ Ok w → Copied core.new page.now }
 {
     if !sections::place_ok(base, page.len()) {
-        return Verdict::Refused(Refusal::Place);
+        return Err(Refusal::Place);
     }
     if !versions::is_edition(edition) {
-        return Verdict::Refused(Refusal::Version);
+        return Err(Refusal::Version);
     }
     let version = sections::version_at(page);
     if !versions::is_accepted(version) {
-        return Verdict::Refused(Refusal::Version);
+        return Err(Refusal::Version);
     }
     let minor = versions::minor(version);
     let e = edition_read(edition, minor);
     if !sections::judge(page, base, minor, e, core) {
-        return Verdict::Refused(Refusal::Rules);
+        return Err(Refusal::Rules);
     }
-    Verdict::Passed(minor)
+    Ok(minor)
 }
 
-// The verdict alone.
-pub fn judge_page(page: &[u8], base: u64, edition: u64) -> Verdict
+// The same without the core: the page's minor, or the first refusal.
+pub fn judge_page(page: &[u8], base: u64, edition: u64) -> Result<u64, Refusal>
     ensures value { result ≡ verdict_of (reading_of edition base page.now) }
     ensures result_value { number_in result ≡ code_in (read_of edition base page.now) }
 {
@@ -146,19 +134,14 @@ pub fn judge_page(page: &[u8], base: u64, edition: u64) -> Verdict
 
 // Reads a lent page at `base` as a reader of `edition`. Returns everything that the page shows, or the first refusal in the order of the
 // checks. The offsets in the view are those that the page's own pointers give.
-pub fn read(page: &[u8], base: u64, edition: u64) -> Reading
+pub fn read(page: &[u8], base: u64, edition: u64) -> Result<View, Refusal>
     ensures value { result ≡ reading_of edition base page.now }
     ensures result_value { reading_answer page.now result ≡ read_of edition base page.now }
 {
     let mut core = [0u8; 112];
-    match judge(page, base, edition, &mut core) {
-        Verdict::Passed(w) => {
-            let e = edition_read(edition, w);
-            let view = view_at(&core, base, w, e);
-            Reading::Accepted(view)
-        }
-        Verdict::Refused(code) => Reading::Refused(code),
-    }
+    let minor = judge(page, base, edition, &mut core)?;
+    let e = edition_read(edition, minor);
+    Ok(view_at(&core, base, minor, e))
 }
 
 // Section `k` of a lent page at `base`, as a reader of `edition` reads it, without building the view. Absent if the page is refused or `k`
@@ -168,17 +151,17 @@ pub fn section_read(page: &[u8], base: u64, edition: u64, k: usize) -> Section
     ensures page_value { shown_as (minor_of (version_at page.now)) k result page.now ≡ shown_in (read_of edition base page.now) k }
 {
     let mut core = [0u8; 112];
-    let verdict = judge(page, base, edition, &mut core);
-    let Verdict::Passed(w) = verdict else {
+    let Ok(minor) = judge(page, base, edition, &mut core) else {
         return Section::Absent;
     };
     if 3 < k {
         return Section::Absent;
     }
-    section_at(&core, base, edition_read(edition, w), k as u8)
+    section_at(&core, base, edition_read(edition, minor), k as u8)
 }
 
 // Section `k` of a view. Absent if `k` is above 3.
+// A function: as a method of `View` it would read no plainer beside `section_read` and the lookups, which take the page first.
 pub fn section_of(view: View, k: usize) -> Section
     ensures { result ≡ section_of view k }
 {

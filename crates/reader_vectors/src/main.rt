@@ -4,8 +4,7 @@
 #![tactic(auto)]
 
 use fields::FieldPlace;
-use lookup::ConsoleFound;
-use reader::{Reading, View};
+use reader::View;
 use vector_io::STDOUT;
 
 fn print_array(page: &[u8], base: u64, edition: u64, k: usize) {
@@ -70,11 +69,11 @@ fn print_fields(page: &[u8], view: View) {
 fn print_console(page: &[u8], view: View, text: &[u8], name: &[u8; 8]) {
     io::write_all(STDOUT, text);
     match lookup::find_console(page, view, name) {
-        ConsoleFound::At(i) => {
+        Some(i) => {
             print_number(b"", i as u64);
             io::write_all(STDOUT, b"\n");
         }
-        ConsoleFound::Nothing => {
+        None => {
             io::write_all(STDOUT, b" none\n");
         }
     }
@@ -93,8 +92,7 @@ fn print_case(edition: u64, base: u64, page: &[u8]) {
     for k in 0..5usize {
         print_array(page, base, edition, k);
     }
-    let reading = reader::read(page, base, edition);
-    let Reading::Accepted(view) = reading else {
+    let Ok(view) = reader::read(page, base, edition) else {
         return;
     };
     print_fields(page, view);

@@ -8,9 +8,9 @@ ghost use Rattle.field_lookup.specs.Steps.{shown_from};
 ghost use Rattle.words.specs.Word.{joined};
 ghost use Rattle.text_lines.specs.Text.{word_text, entry_text, count_text, state_text, title_text, section_text, head_text, pointer_text, plat_text, fields_text, listing_of, printed};
 ghost use Rattle.text_lines.specs.Laid.{Listed};
-ghost use Rattle.text_lines.specs.Steps.{seen, refusal_line, LaidOver};
+ghost use Rattle.text_lines.specs.Steps.{seen, LaidOver};
 
-use reader::{Reading, Refusal, Section, View};
+use reader::{Refusal, Section, View};
 
 // Writes word `j` of an entry of section `k`: a console's name as bytes, any other word in hex.
 fn put_word(out: &mut [u8], at: usize, k: usize, j: usize, w: u64) -> usize
@@ -190,7 +190,7 @@ fn put_fields(out: &mut [u8], at: usize, page: &[u8], start: usize) -> usize
 
 // Writes the listing of an accepted page.
 fn put_view(out: &mut [u8], page: &[u8], view: View) -> usize
-    ensures { LaidOver 0 (listing_of (reading_answer page.now (Reading.Accepted view))) out.old result out.new }
+    ensures { LaidOver 0 (listing_of (reading_answer page.now (Ok view))) out.old result out.new }
 {
     let to = put_head(out, 0, view.minor, view.edition);
     let to = put_plat(out, to, view.plat);
@@ -210,26 +210,15 @@ fn put_code(out: &mut [u8], code: Refusal) -> usize
     }
 }
 
-// Writes the line of a reading that refuses; nothing for an accepted one.
-fn put_refused(out: &mut [u8], reading: Reading) -> usize
-    ensures { LaidOver 0 (refusal_line reading) out.old result out.new }
-{
-    match reading {
-        Reading::Accepted(_) => 0,
-        Reading::Refused(code) => put_code(out, code),
-    }
-}
-
 // Writes the listing of a page at `base`, read as `edition`, to the start of `out`, as far as it fits; the rest of `out` is unchanged. Returns the
 // length of the whole text, which exceeds `out.len()` if it does not fit.
 pub fn list(page: &[u8], base: u64, edition: u64, out: &mut [u8]) -> usize
     ensures { Listed (listing_of (read_of edition base page.now)) out.old result out.new }
 {
-    let reading = reader::read(page, base, edition);
-    let Reading::Accepted(view) = reading else {
-        return put_refused(out, reading);
-    };
-    put_view(out, page, view)
+    match reader::read(page, base, edition) {
+        Ok(view) => put_view(out, page, view),
+        Err(code) => put_code(out, code),
+    }
 }
 
 // Writes the listing of the program's input: 8 bytes of B, then the page, read as edition 4. Returns the length of the whole text.

@@ -19,8 +19,7 @@ use Rattle.reader.specs.declared.Section.TheVariants.{Absent, Empty, Entries}
 use Rattle.reader.specs.declared.View.{View}
 use Rattle.reader.specs.declared.Refusal.{Refusal}
 use Rattle.reader.specs.declared.Refusal.TheVariants.{Place}
-use Rattle.reader.specs.declared.Reading.{Reading}
-use Rattle.reader.specs.declared.Reading.TheVariants.{Accepted, Refused}
+use Rattle.std.specs.Prelude.{Result, Ok, Err}
 use Rattle.reader.proofs.Whole.{reading-answer}
 use Rattle.fields.specs.Steps.{step_at}
 use Rattle.lookup.specs.Fast.{word_of}
@@ -33,7 +32,7 @@ use Rattle.fields.specs.declared.FieldStep.{FieldStep}
 use Rattle.field_lookup.proofs.Fields.{place_shown, step-some, step-first}
 use Rattle.text_lines.specs.Text.{newline, space, none_text, absent_text, title_text, hex_text, name_text, word_text, gap_text, count_text}
 use Rattle.text_lines.specs.Text.{state_text, section_text, head_text, plat_text, pointer_text, field_text, fields_text, listing_of, printed}
-use Rattle.text_lines.specs.Steps.{seen, place_text, refusal_line}
+use Rattle.text_lines.specs.Steps.{seen, place_text}
 
 -- ---- the space before a word
 pub gap-none : (j : ℕ) → j ≡ 0 → [] ≡ gap_text j
@@ -122,19 +121,19 @@ state-absent w k s page e = rw e
 
 -- ---- the answer of a reading
 pub seen-listed : (v : View) (page : List ℕ) →
-    head_text v.minor v.edition ++ plat_text v.plat ++ fields_text (fields_shown (reading_answer page (Accepted v))) ++
+    head_text v.minor v.edition ++ plat_text v.plat ++ fields_text (fields_shown (reading_answer page (Ok v))) ++
     joined 4 (section_text (seen v page))
-    ≡ listing_of (reading_answer page (Accepted v))
+    ≡ listing_of (reading_answer page (Ok v))
 unfolding reading_answer fields_shown listing_of seen
 seen-listed v page = refl
 
-pub list-refused : (e base : ℕ) (page : List ℕ) (r : Reading) (c : Refusal) → r ≡ Refused c → r ≡ reading_of e base page →
-    refusal_line r ≡ listing_of (read_of e base page)
-unfolding refusal_line reading_answer
+pub list-refused : (e base : ℕ) (page : List ℕ) (r : Result View Refusal) (c : Refusal) → r ≡ Err c → r ≡ reading_of e base page →
+    listing_of (refused (refusal_number c)) ≡ listing_of (read_of e base page)
+unfolding reading_answer
 list-refused e base page r c h f = rw (← reading-answer e base page, ← f, h)
 
-pub list-accepted : (e base : ℕ) (page : List ℕ) (r : Reading) (v : View) → r ≡ Accepted v → r ≡ reading_of e base page →
-    listing_of (reading_answer page (Accepted v)) ≡ listing_of (read_of e base page)
+pub list-accepted : (e base : ℕ) (page : List ℕ) (r : Result View Refusal) (v : View) → r ≡ Ok v → r ≡ reading_of e base page →
+    listing_of (reading_answer page (Ok v)) ≡ listing_of (read_of e base page)
 list-accepted e base page r v h f = rw (← reading-answer e base page, ← f, h)
 
 -- ---- the input of the program

@@ -7,20 +7,19 @@ use Rattle.entries.specs.Entry.{size}
 use Rattle.entries.proofs.Entries.{fits-end}
 use Rattle.lookup.proofs.Lookups.{place-in, place_out}
 use borrow.Author.Rules.{rules}
+use Rattle.lookup.proofs.place_at.Goals.{then-room-at-via-then-room-at, then-room-at-via-else-room-at+then-not-fits}
 use Rattle.lookup.proofs.place_at.Goals as goal
 
 pub returns-then-room-at : goal.returns-then-room-at
 unfolding no_span
 returns-then-room-at c =
     let a = c.args in
-    place_out a.k a.at a.count a.room (omega arith)
-
-pub returns-then-not-fits : goal.returns-then-not-fits
-unfolding no_span
-returns-then-not-fits c =
-    let a = c.args in
-    let f : a.room - a.at < size a.k a.count = leb-false _ _ (sym c.fits.ensures ∙ c.if-not-fits.true) in
-    place_out a.k a.at a.count a.room (omega arith)
+    elim c.then-room-at.branch [
+      | then-room-at-via-then-room-at w ↦ place_out a.k a.at a.count a.room (omega arith)
+      | then-room-at-via-else-room-at+then-not-fits w ↦
+          let f : a.room - a.at < size a.k a.count = leb-false _ _ (sym w.fits.ensures ∙ w.if-not-fits.true) in
+          place_out a.k a.at a.count a.room (omega arith)
+    ]
 
 pub overflow_mul-entry_words : goal.overflow_mul-entry_words
 overflow_mul-entry_words c =

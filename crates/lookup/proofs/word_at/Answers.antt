@@ -7,25 +7,27 @@ use Rattle.entries.proofs.Entries.{fits-end}
 use Rattle.lookup.proofs.Lookups.{word-narrow, word-past, word_out, word-there, word-place}
 use borrow.Author.Rules.{rules}
 use native.Mathlib.Omega.{arith}
+use Rattle.lookup.proofs.word_at.Goals.{then-step-j-via-then-step-j, then-step-j-via-else-step-j+then-count-i}
+use Rattle.lookup.proofs.word_at.Goals.{then-page-at-via-then-page-at, then-page-at-via-else-page-at+then-not-fits}
 use Rattle.lookup.proofs.word_at.Goals as goal
 
 pub returns-then-step-j : goal.returns-then-step-j
-returns-then-step-j c = let a = c.args in word-narrow a.k a.at a.count a.i a.j a.page.now (omega arith)
-
-pub returns-then-count-i : goal.returns-then-count-i
-returns-then-count-i c =
-    let a = c.args in word-past a.k a.at a.count a.i a.j a.page.now (omega arith)
+returns-then-step-j c =
+    let a = c.args in
+    elim c.then-step-j.branch [
+      | then-step-j-via-then-step-j w ↦ word-narrow a.k a.at a.count a.i a.j a.page.now (omega arith)
+      | then-step-j-via-else-step-j+then-count-i w ↦ word-past a.k a.at a.count a.i a.j a.page.now (omega arith)
+    ]
 
 pub returns-then-page-at : goal.returns-then-page-at
 returns-then-page-at c =
-    let a = c.args in word_out a.k a.at a.count a.i a.j a.page.now (omega arith)
-
-pub returns-then-not-fits : goal.returns-then-not-fits
-returns-then-not-fits c =
     let a = c.args in
-    let f : length a.page.now - a.at < size a.k a.count = leb-false _ _
-    (sym c.fits.ensures ∙ c.if-not-fits.true) in
-    word_out a.k a.at a.count a.i a.j a.page.now (omega arith)
+    elim c.then-page-at.branch [
+      | then-page-at-via-then-page-at w ↦ word_out a.k a.at a.count a.i a.j a.page.now (omega arith)
+      | then-page-at-via-else-page-at+then-not-fits w ↦
+          let f : length a.page.now - a.at < size a.k a.count = leb-false _ _ (sym w.fits.ensures ∙ w.if-not-fits.true) in
+          word_out a.k a.at a.count a.i a.j a.page.now (omega arith)
+    ]
 
 pub overflow_mul-step : goal.overflow_mul-step
 overflow_mul-step c =

@@ -1,4 +1,6 @@
 use mathlib.Core.Path.{sym, ap, ◌∙◌}
+use mathlib.Core.Logic.{⊎_elim}
+use Rattle.reader.specs.declared.Section.{Section}
 use Rattle.reader.specs.Answer.{entry_word}
 use Rattle.reader.specs.Reading.{shown_as}
 use Rattle.lookup.specs.Fast.{word_of}
@@ -14,13 +16,8 @@ pub returns-in-Absent : goal.returns-in-Absent
 unfolding word_of shown_as entry_word
 returns-in-Absent c =
     let a = c.args in
-    sym (ap (λ s. word_of a.minor a.k a.i a.j s a.page.now) c.in-Absent.is)
-
-pub returns-in-Empty : goal.returns-in-Empty
-unfolding word_of shown_as entry_word
-returns-in-Empty c =
-    let a = c.args in
-    sym (ap (λ s. word_of a.minor a.k a.i a.j s a.page.now) c.in-Empty.is)
+    let of = λ (s : Section). word_of a.minor a.k a.i a.j s a.page.now in
+    ⊎_elim (λ e. sym (ap of e)) (λ e. sym (ap of e)) c.in-Absent.is
 
 pub returns-in-Entries : goal.returns-in-Entries
 returns-in-Entries c =

@@ -12,5 +12,5 @@ returns-in-Done c = sym (ap mended_number c.in-Done.is)
 pub returns-in-Refused : goal.returns-in-Refused
 unfolding mended_number
 returns-in-Refused c =
-    let q : to_z w32 (of_z w32 c.number.result) ≡ c.number.result = search rules in
-    q ∙ c.number.ensures ∙ sym (ap mended_number c.in-Refused.is)
+    let q : to_z w32 (of_z w32 c.from.result) ≡ c.from.result = search rules in
+    q ∙ c.from.ensures ∙ sym (ap mended_number c.in-Refused.is)

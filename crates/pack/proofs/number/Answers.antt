@@ -9,8 +9,8 @@ returns-in-Page c = sym (ap packing_number c.in-Page.is)
 pub returns-in-Refused : goal.returns-in-Refused
 unfolding packing_number
 returns-in-Refused c =
-    let q : to_z w32 (of_z w32 c.number.result) ≡ c.number.result = search rules in
-    q ∙ c.number.ensures ∙ sym (ap packing_number c.in-Refused.is)
+    let q : to_z w32 (of_z w32 c.from.result) ≡ c.from.result = search rules in
+    q ∙ c.from.ensures ∙ sym (ap packing_number c.in-Refused.is)
 
 pub returns-in-Target : goal.returns-in-Target
 unfolding packing_number

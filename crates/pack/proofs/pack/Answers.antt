@@ -14,7 +14,7 @@ unfolding packed_by target_after
 returns-then-minor-gt4 c =
     let a = c.args in
     let told = packs-not (packing.Refused refusal.Version) a.target.now _ (stopped (minus 6)) refl refl
-    (late-packs a.base a.page.now _ (sym c.in-Passed.is ∙
+    (late-packs a.base a.page.now _ (sym c.in-Ok.is ∙
     c.judge.ensures.value) (length a.target.now) (search rules))
     (λ i. omega (arith, c.shared_slice_known-1.given i)) in record { result_after = told.0; target_after = told.1.0; by_index = told.1.1 }
 
@@ -23,44 +23,44 @@ unfolding packed_by target_after page_after
 returns-then-target-ne-PAGE_LEN c =
     let a = c.args in
     let told = packs-not packing.Target a.target.now _ (written (no-page 1)) refl refl
-    (target-packs a.base a.page.now _ (sym c.in-Passed.is ∙
+    (target-packs a.base a.page.now _ (sym c.in-Ok.is ∙
     c.judge.ensures.value) (length a.target.now) (search rules) (search rules))
     (λ i. omega (arith, c.shared_slice_known-1.given i)) in record { result_after = told.0; target_after = told.1.0; by_index = told.1.1 }
 
 pub slice_bounds-put_page-end : goal.slice_bounds-put_page-end
 slice_bounds-put_page-end c =
     sym (c.judge.ensures.by_index _
-    c.in-Passed.is).long
+    c.in-Ok.is).long
 
 pub put_page-requires : goal.put_page-requires
 put_page-requires c =
     let a = c.args in
-    let r = page-ready a.base a.page.now _ (sym c.in-Passed.is ∙
+    let r = page-ready a.base a.page.now _ (sym c.in-Ok.is ∙
     c.judge.ensures.value) (search rules) in (
       r.0,
       search rules,
       r.1,
       c.judge.ensures.by_index _
-          c.in-Passed.is,
+          c.in-Ok.is,
       r.2,
       r.3,
     )
 
-pub returns-in-Refused : goal.returns-in-Refused
+pub returns-in-Err : goal.returns-in-Err
 unfolding packed_by target_after
-returns-in-Refused c =
+returns-in-Err c =
     let a = c.args in
-    let told = packs-not (packing.Refused c.in-Refused.code) a.target.now _
-    (stopped (refusal_number c.in-Refused.code)) refl refl
+    let told = packs-not (packing.Refused c.in-Err.code) a.target.now _
+    (stopped (refusal_number c.in-Err.code)) refl refl
     (refused-packs a.base a.page.now (length a.target.now) _
-    (sym c.in-Refused.is ∙ c.judge.ensures.value))
+    (sym c.in-Err.is ∙ c.judge.ensures.value))
     (λ i. omega (arith, c.shared_slice_known-1.given i)) in record { result_after = told.0; target_after = told.1.0; by_index = told.1.1 }
 
 pub returns-else-target-ne-PAGE_LEN : goal.returns-else-target-ne-PAGE_LEN
 returns-else-target-ne-PAGE_LEN c =
     let a = c.args in
     let told = packs-page a.target.now _ _ _ (page-packs a.base a.page.now _
-    (sym c.in-Passed.is ∙ c.judge.ensures.value) (length a.target.now) (search rules) (search rules))
+    (sym c.in-Ok.is ∙ c.judge.ensures.value) (length a.target.now) (search rules) (search rules))
     c.put_page.ensures (λ i. omega (
       arith,
       c.shared_slice_known-1.given i,

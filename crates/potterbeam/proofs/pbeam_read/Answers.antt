@@ -10,36 +10,36 @@ use borrow.Author.Rules.{rules}
 use Rattle.potterbeam.proofs.pbeam_read.Goals as goal
 
 pub slice_bounds-show-end : goal.slice_bounds-show-end
-slice_bounds-show-end c = sym (c.judge.ensures.by_index _ c.in-Passed.is).long
+slice_bounds-show-end c = sym (c.judge.ensures.by_index _ c.in-Ok.is).long
 
 pub show-requires : goal.show-requires
 show-requires c =
     let a = c.args in
     let f = fine-reads a.edition a.base a.page.now _
-    (sym c.in-Passed.is ∙ c.judge.ensures.value) in
-    let k = c.judge.ensures.by_index _ c.in-Passed.is in (
+    (sym c.in-Ok.is ∙ c.judge.ensures.value) in
+    let k = c.judge.ensures.by_index _ c.in-Ok.is in (
       search rules,
-      core-placed a.page.now _ k c.in-Passed.w
+      core-placed a.page.now _ k c.in-Ok.minor
           c.edition_read.result.minor a.base (rw c.edition_read.ensures f.1),
     )
 
-pub returns-in-Passed : goal.returns-in-Passed
-returns-in-Passed c =
+pub returns-in-Ok : goal.returns-in-Ok
+returns-in-Ok c =
     let a = c.args in
     let f = fine-reads a.edition a.base a.page.now _
-    (sym c.in-Passed.is ∙
+    (sym c.in-Ok.is ∙
     c.judge.ensures.value) in
     let v = core-view a.page.now _ (c.judge.ensures.by_index _
-    c.in-Passed.is) c.in-Passed.w
+    c.in-Ok.is) c.in-Ok.minor
     c.edition_read.result.minor a.base in
     let told = told-read a.edition a.base _ _ a.page.now c.edition_read.ensures f.2 _
     (c.show.ensures ∙ ap view_words v) in record { value = told.0; view_after = told.1 }
 
-pub returns-in-Refused : goal.returns-in-Refused
-returns-in-Refused c =
+pub returns-in-Err : goal.returns-in-Err
+returns-in-Err c =
     let a = c.args in
     let h = refused-reads a.edition a.base a.page.now _
-    (sym c.in-Refused.is ∙ c.judge.ensures.value) in
+    (sym c.in-Err.is ∙ c.judge.ensures.value) in
     let g = refused-answer a.edition a.base a.page.now _ h in
-    let q : to_z w32 (of_z w32 c.number.result) ≡ c.number.result = search rules in
-    record { value = q ∙ c.number.ensures ∙ g.0; view_after = g.1 }
+    let q : to_z w32 (of_z w32 c.from.result) ≡ c.from.result = search rules in
+    record { value = q ∙ c.from.ensures ∙ g.0; view_after = g.1 }
