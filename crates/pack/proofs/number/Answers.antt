@@ -2,16 +2,16 @@ use Rattle.std.proofs.Common.{◌≡◌, sym, ap, ◌∙◌, w32, to_z, of_z, ru
 use Rattle.pack.specs.Pack.{packing_number}
 use Rattle.pack.proofs.number.Goals as goal
 
-pub returns-in-Page : goal.returns-in-Page
+pub returns-in-Ok : goal.returns-in-Ok
 unfolding packing_number
-returns-in-Page c = sym (ap packing_number c.in-Page.is)
+returns-in-Ok c = sym (ap packing_number c.in-Ok.is)
 
-pub returns-in-Refused : goal.returns-in-Refused
+pub returns-in-Err-Refused : goal.returns-in-Err-Refused
 unfolding packing_number
-returns-in-Refused c =
+returns-in-Err-Refused c =
     let q : to_z w32 (of_z w32 c.number.result) ≡ c.number.result = search rules in
-    q ∙ c.number.ensures ∙ sym (ap packing_number c.in-Refused.is)
+    q ∙ c.number.ensures ∙ sym (ap packing_number c.in-Err-Refused.is)
 
-pub returns-in-Target : goal.returns-in-Target
+pub returns-in-Err-Target : goal.returns-in-Err-Target
 unfolding packing_number
-returns-in-Target c = sym (ap packing_number c.in-Target.is)
+returns-in-Err-Target c = sym (ap packing_number c.in-Err-Target.is)

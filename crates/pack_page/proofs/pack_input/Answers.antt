@@ -15,31 +15,31 @@ returns-then-input-ne4104 c = (
       c.if-input-ne4104.true,
 )
 
-pub returns-in-Page : goal.returns-in-Page
+pub returns-in-Ok : goal.returns-in-Ok
 unfolding packed_by output_of
-returns-in-Page c = (
+returns-in-Ok c = (
   search rules,
   take-length _ ∙ input-packed c.args.input.now _
       (length c.args.out.now) _ (search rules)
       c.word_at.ensures c.requires
-      (ap (packed_by _) (sym c.in-Page.is) ∙ c.pack.ensures.result_after),
+      (ap (packed_by _) (sym c.in-Ok.is) ∙ c.pack.ensures.result_after),
 )
 
-pub returns-in-Refused : goal.returns-in-Refused
+pub returns-in-Err-Refused : goal.returns-in-Err-Refused
 unfolding packed_by output_of
-returns-in-Refused c = (
-  c.put_code-in-Refused.ensures.0,
-  c.put_code-in-Refused.ensures.1 ∙
+returns-in-Err-Refused c = (
+  c.put_code-in-Err-Refused.ensures.0,
+  c.put_code-in-Err-Refused.ensures.1 ∙
       input-packed c.args.input.now _ (length c.args.out.now) _ (search rules)
       c.word_at.ensures c.requires
-      (ap (packed_by _) (sym c.in-Refused.is) ∙ c.pack.ensures.result_after),
+      (ap (packed_by _) (sym c.in-Err-Refused.is) ∙ c.pack.ensures.result_after),
 )
 
-pub returns-in-Target : goal.returns-in-Target
+pub returns-in-Err-Target : goal.returns-in-Err-Target
 unfolding packed_by output_of
-returns-in-Target c = (
+returns-in-Err-Target c = (
   search rules,
   input-packed c.args.input.now _ (length c.args.out.now) _
       (search rules) c.word_at.ensures c.requires
-      (ap (packed_by _) (sym c.in-Target.is) ∙ c.pack.ensures.result_after),
+      (ap (packed_by _) (sym c.in-Err-Target.is) ∙ c.pack.ensures.result_after),
 )

@@ -1,4 +1,4 @@
-use Rattle.std.proofs.Common.{◌≡◌, sym, arith, rules, le-leb}
+use Rattle.std.proofs.Common.{◌≡◌, sym, arith, le-leb}
 use borrow.Author.Tests.{lt-leb}
 use Rattle.writer_checks.specs.Steps.{sum_to}
 use Rattle.writer_checks.proofs.Lists.{to_none, to-more, to-over}

@@ -1,4 +1,4 @@
-use Rattle.std.proofs.Common.{◌≡◌, ◌*◌, ◌/◌, ◌%◌, ◌^◌, ◌≤◌, length, sym, ap, ◌∙◌, arith}
+use Rattle.std.proofs.Common.{◌≡◌, ◌*◌, ◌/◌, ◌%◌, ◌≤◌, length, sym, ap, ◌∙◌, arith}
 use Rattle.entries.specs.Entry.{words_per_entry, entries_ok}
 use Rattle.entries.proofs.Entries.{per-one, per-other}
 use Rattle.writer_checks.proofs.Lists.{whole_room, list-part, list-whole, sum-all}

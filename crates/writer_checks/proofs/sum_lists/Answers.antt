@@ -1,6 +1,5 @@
-use Rattle.std.proofs.Common.{◌≡◌, true, false, ◌∙◌}
+use Rattle.std.proofs.Common.{◌∙◌}
 use Rattle.words.specs.Tests.{both}
-use Rattle.writer_checks.specs.Description.{list_ok}
 use Rattle.writer_checks.proofs.Lists.{some-list, none-list, sums-not, sums-are, sums-told}
 use Rattle.writer_checks.proofs.sum_lists.Goals as goal
 

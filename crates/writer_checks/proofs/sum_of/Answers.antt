@@ -1,4 +1,4 @@
-use Rattle.std.proofs.Common.{◌∙◌, arith, rules}
+use Rattle.std.proofs.Common.{◌∙◌, arith}
 use Rattle.writer_checks.proofs.Lists.{sum-none, sum_more, sum-all}
 use Rattle.writer_checks.proofs.sum_of.Goals as goal
 
