@@ -1,4 +1,4 @@
-use Rattle.std.proofs.Common.{length, sym, refl, ◌∙◌, arith, rules, Ok, Err}
+use Rattle.std.proofs.Common.{length, sym, refl, ◌∙◌, arith, rules, Err}
 use Rattle.reader.specs.Answer.{minus}
 use Rattle.reader.specs.Reading.{refusal_number}
 use Rattle.reader.specs.declared.Refusal.TheVariants as refusal
@@ -54,7 +54,7 @@ returns-in-Refused c =
     (stopped (refusal_number c.in-Refused.code)) refl refl
     (refused-packs a.base a.page.now (length a.target.now) _
     (sym c.in-Refused.is ∙ c.judge.ensures.value))
-    (λ i. omega (arith, c.shared_slice_known-1.given i)) in record { result_after = told.0; target_after = told.1.0; by_index = told.1.1 }
+    (λ i. omega (arith, c.shared_slice_known-1.given i)) in rw c.from.ensures (record { result_after = told.0; target_after = told.1.0; by_index = told.1.1 })
 
 pub returns-else-target-ne-PAGE_LEN : goal.returns-else-target-ne-PAGE_LEN
 returns-else-target-ne-PAGE_LEN c =
