@@ -1,5 +1,5 @@
 -- The rule that a diagnosis names is broken at the place reported: one pass over the definitions, one fact for each leaf. Assumes nothing.
-use Rattle.std.proofs.Common.{◌≡◌, ℕ, zero, suc, ◌+◌, ◌-◌, ◌*◌, ◌%◌, ◌^◌, ◌<◌, ◌≤◌, Bool, true, false, eqb, ltb, List, length, get_or, drop, sym, refl, ap, ◌∙◌, add-one, arith, length-drop, get_or-drop, drop-drop, ltb-false, lt-ltb, eq-eqb, eqb-true, le-leb, leb-false}
+use Rattle.std.proofs.Common.{◌≡◌, ℕ, zero, suc, ◌+◌, ◌-◌, ◌*◌, ◌%◌, ◌^◌, ◌<◌, ◌≤◌, Bool, true, false, eqb, ltb, List, length, get_or, drop, sym, refl, ap, ◌∙◌, add-one, arith, length-drop, get_or-drop, drop-drop, ltb-false, lt-ltb, eq-eqb, eqb-true, le-leb, leb-false, Ok}
 use mathlib.Core.Bool.{false≢true}
 use borrow.Author.Tests.{eqb-false, not-false}
 use Rattle.words.specs.Tests.{both, either}
@@ -24,7 +24,6 @@ use Rattle.faults.specs.Faults.{rules_fault, refusal_of}
 use Rattle.faults.specs.Promise.{field_place, unit, array_words, BrokenAs}
 use Rattle.faults.specs.declared.Rule.TheVariants as rule
 use Rattle.faults.specs.declared.Fault.{Fault}
-use Rattle.faults.specs.declared.Diagnosis.TheVariants.{Clear}
 use Rattle.faults.proofs.Order.{is-clear}
 use Rattle.faults.proofs.Clear.{entries-clear, sections-clear, overlaps-clear}
 use Rattle.faults.proofs.Holds.{Holds, hold-unless, hold-cond, hold-or, hold-first}
@@ -163,7 +162,7 @@ module _ (r w e base : ℕ) (page : List ℕ) where
     entry-broken = hold-cond Good _ _ _ console-broken bank-broken
 
   entry_at : (k : ℕ) → k < section_count e → ok_to w e base k page ≡ true → (i : ℕ) → i < count_at k page →
-      first_of i (entry_of w k (pointer_at k page - base) page) ≡ Clear → Holds Good (entry_of w k (pointer_at k page - base) page i)
+      first_of i (entry_of w k (pointer_at k page - base) page) ≡ Ok tt → Holds Good (entry_of w k (pointer_at k page - base) page i)
   unfolding entry_of
   entry_at k lk ls i l c = entry-broken k i lk ls l (sym (entries-clear w k (pointer_at k page - base) i page) ∙ is-clear _ c)
 
@@ -171,7 +170,7 @@ module _ (r w e base : ℕ) (page : List ℕ) where
   module _ (k : ℕ) (lk : k < section_count e) (ls : ok_to w e base k page ≡ true) (hc : ltb 0 (count_at k page) ≡ true)
       (ha : eqb (pointer_at k page % 8) 0 ≡ true)
       (hr : in_range e base k (count_at k page) (pointer_at k page) ≡ true)
-      (hn : first_of (count_at k page) (entry_of w k (pointer_at k page - base) page) ≡ Clear) where
+      (hn : first_of (count_at k page) (entry_of w k (pointer_at k page - base) page) ≡ Ok tt) where
     -- with the wanted checksum the section keeps its rule
     wanted-ok : section_ok w e base k (page_section (count_at k page) (pointer_at k page)
         (wanted_sum (count_at k page) (pointer_at k page) (array_words base k page)) (page_section_at base page k).bytes) ≡ true
@@ -198,7 +197,7 @@ module _ (r w e base : ℕ) (page : List ℕ) where
           ),
         )) (λ g. tt)
 
-  section-broken : (k : ℕ) → k < section_count e → first_of k (section_fault w e base page) ≡ Clear → Holds Good (section_fault w e base page k)
+  section-broken : (k : ℕ) → k < section_count e → first_of k (section_fault w e base page) ≡ Ok tt → Holds Good (section_fault w e base page k)
   unfolding section_fault section_tests array_fault mk_fault refusal_of
   section-broken k lk lc =
       let ls = sym (sections-clear w e base k page) ∙ is-clear _ lc in
@@ -212,7 +211,7 @@ module _ (r w e base : ℕ) (page : List ℕ) where
       hold-or Good _ _ (hold-first Good c (entry_of w k (q - base) page) (entry_at k lk ls)) (λ hn. check-broken k lk ls hc ha hr hn)))))
 
   -- ---- overlaps
-  overlap-broken : ok_to w e base (section_count e) page ≡ true → (i : ℕ) → i < section_count e → first_of i (overlap page) ≡ Clear →
+  overlap-broken : ok_to w e base (section_count e) page ≡ true → (i : ℕ) → i < section_count e → first_of i (overlap page) ≡ Ok tt →
       Holds Good (overlap page i)
   unfolding overlap clash clear_at mk_fault refusal_of
   overlap-broken all i li ic =

@@ -1,5 +1,5 @@
 -- Laws of the definitions, in the form that the turns and returns of the code need. Assumes nothing.
-use Rattle.std.proofs.Common.{◌≡◌, ℕ, suc, ◌+◌, ◌-◌, ◌*◌, ◌%◌, ◌^◌, ◌<◌, ◌≤◌, Bool, true, false, cond, eqb, leb, List, length, get_or, take, drop, sym, refl, ◌∙◌, mul-le-mul_left, mul-suc, add-one, arith, length-drop, take_all, eq-eqb, ne_eqb, le-leb, leb-true}
+use Rattle.std.proofs.Common.{◌≡◌, ℕ, suc, ◌+◌, ◌-◌, ◌*◌, ◌%◌, ◌^◌, ◌<◌, ◌≤◌, Bool, true, false, cond, eqb, leb, List, length, get_or, take, drop, sym, refl, ◌∙◌, mul-le-mul_left, mul-suc, add-one, arith, length-drop, take_all, eq-eqb, ne_eqb, le-leb, leb-true, Ok, Err}
 use native.Mathlib.Decide.{dec_le}
 use borrow.Author.Tests.{lt-leb}
 use Rattle.words.specs.Tests.{both, either}
@@ -15,13 +15,11 @@ use Rattle.sections.specs.Steps.{clear_at}
 use Rattle.sections.proofs.Sections.{end-steps}
 use Rattle.fields.specs.Steps.{seen_with, none_seen}
 use Rattle.fields.specs.declared.Seen.{Seen}
-use Rattle.faults.specs.Faults.{mk_fault, unless, first_fault, first_of, wanted_sum, check_fault, section_tests, section_fault, clash}
+use Rattle.faults.specs.Faults.{Diagnosis, mk_fault, unless, first_fault, first_of, wanted_sum, check_fault, section_tests, section_fault, clash}
 use Rattle.faults.specs.Faults.{overlap, field_fault, field_tests, walk_fault, fields_fault}
 use Rattle.faults.specs.declared.Rule.{Rule}
 use Rattle.faults.specs.declared.Rule.TheVariants as rule
 use Rattle.faults.specs.declared.Fault.{Fault}
-use Rattle.faults.specs.declared.Diagnosis.{Diagnosis}
-use Rattle.faults.specs.declared.Diagnosis.TheVariants.{Clear, At}
 
 pub either_true : (b : Bool) → either b true ≡ true
 unfolding either
@@ -57,16 +55,16 @@ range-fits e base k c p h g = rw (le-leb (base + core e) p h) (go (dec_le (size 
 
 -- ---- an overlap
 module _ (r : Rule) (k off from to : ℕ) (page : List ℕ) (j : ℕ) where
-  pub clash-clear : clear_at from to j page ≡ true → clash r k off from to page j ≡ Clear
+  pub clash-clear : clear_at from to j page ≡ true → clash r k off from to page j ≡ Ok tt
   unfolding clash unless
   clash-clear h = rw h
 
-  pub clash-at : clear_at from to j page ≡ false → clash r k off from to page j ≡ At (mk_fault r k j off from 0)
+  pub clash-at : clear_at from to j page ≡ false → clash r k off from to page j ≡ Err (mk_fault r k j off from 0)
   unfolding clash unless
   clash-at h = rw h
 
 -- ---- the fields, turn by turn: the code read t and m at the offset, and d is its result for them
-unless-clear : (b : Bool) (f : Fault) (d : Diagnosis) → unless b f d ≡ Clear → b ≡ true
+unless-clear : (b : Bool) (f : Fault) (d : Diagnosis) → unless b f d ≡ Ok tt → b ≡ true
 unfolding unless
 unless-clear true f d h = refl
 unless-clear false f d h = absurd (let z : ◌≡◌ {A = ℕ} 1 0 = cc in omega arith)
@@ -74,16 +72,16 @@ unless-clear false f d h = absurd (let z : ◌≡◌ {A = ℕ} 1 0 = cc in omega
 module _ (s : Seen) (from i at : ℕ) (bs : List ℕ) (l : i < length bs) (t m : ℕ) (ct : t ≡ get_or bs at 0) (cm : m ≡ num_at 2 (at + 1) bs)
     (d : Diagnosis) (cd : d ≡ field_tests s from i at t m (length bs)) where
   walk_turn : walk_fault (length bs - i) s from i at bs ≡ first_fault d
-      (cond (eqb t 0) Clear (walk_fault (length bs - (i + 1)) (seen_with s t) from (i + 1) (at + 3 + m) bs))
+      (cond (eqb t 0) (Ok tt) (walk_fault (length bs - (i + 1)) (seen_with s t) from (i + 1) (at + 3 + m) bs))
   unfolding walk_fault
   walk_turn = rw (let e : length bs - i ≡ suc (length bs - (i + 1)) = omega arith in e, cd, ct, cm)
 
-  pub walk_at : (x : Fault) → d ≡ At x → d ≡ walk_fault (length bs - i) s from i at bs
+  pub walk_at : (x : Fault) → d ≡ Err x → d ≡ walk_fault (length bs - i) s from i at bs
   unfolding first_fault
   walk_at x h = rw (walk_turn, h)
 
-  module _ (h : d ≡ Clear) where
-    pub walk_end : t ≡ 0 → Clear ≡ walk_fault (length bs - i) s from i at bs
+  module _ (h : d ≡ Ok tt) where
+    pub walk_end : t ≡ 0 → Ok tt ≡ walk_fault (length bs - i) s from i at bs
     unfolding first_fault
     walk_end z = rw (walk_turn, h, eq-eqb t 0 z)
 
@@ -101,7 +99,7 @@ unfolding fields_fault
 walk_start s from bs h = rw (h, let z : length bs - 0 ≡ length bs = omega arith in z)
 
 pub walk-out : (s : Seen) (from i at : ℕ) (bs : List ℕ) (t m : ℕ) → t ≡ get_or bs at 0 → m ≡ num_at 2 (at + 1) bs → i ≡ length bs →
-    At (field_fault rule.NoEndMark (length bs) (from + at) t m) ≡ walk_fault (length bs - i) s from i at bs
+    Err (field_fault rule.NoEndMark (length bs) (from + at) t m) ≡ walk_fault (length bs - i) s from i at bs
 unfolding walk_fault
 walk-out s from i at bs t m ct cm e = rw (let z : length bs - i ≡ 0 = omega arith in z, ct, cm, e)
 
@@ -137,12 +135,12 @@ module _ (k at c p s : ℕ) (page : List ℕ) (n x h t u : ℕ) (cn : n ≡ word
   unfolding wanted_sum
   told-wanted = rw (← told-total) (wanted-law t u (rw ct (omega arith)) lu cu)
 
-  pub check-good : s ≡ u → Clear ≡ check_fault k c p s (words_at k c at page)
+  pub check-good : s ≡ u → Ok tt ≡ check_fault k c p s (words_at k c at page)
   unfolding check_fault check_ok unless
   check-good e =
       rw (e, eq-eqb ((c + p + sum (words_at k c at page) + u) % 2 ^ 64) 0 (zero-law (c + p + sum (words_at k c at page)) t u told-total cu))
 
-  pub check-bad : s < 2 ^ 64 → (s ≡ u → ⊥) → At (mk_fault rule.Checksum k 0 (32 + 24 * k) s u) ≡ check_fault k c p s (words_at k c at page)
+  pub check-bad : s < 2 ^ 64 → (s ≡ u → ⊥) → Err (mk_fault rule.Checksum k 0 (32 + 24 * k) s u) ≡ check_fault k c p s (words_at k c at page)
   unfolding check_fault check_ok unless
   check-bad l e =
       rw (

@@ -1,5 +1,5 @@
 -- What is proved of every diagnosis (specs/Promise.antt). Assumes nothing.
-use Rattle.std.proofs.Common.{◌≡◌, ℕ, ◌-◌, ◌%◌, ◌^◌, ◌<◌, ◌≤◌, min, Bool, true, false, eqb, List, length, sym, refl, ap, ◌∙◌, arith, lt-ltb, eq-eqb, eqb-true, le-leb}
+use Rattle.std.proofs.Common.{◌≡◌, ℕ, ◌-◌, ◌%◌, ◌^◌, ◌<◌, ◌≤◌, min, Bool, true, false, eqb, List, length, sym, refl, ap, ◌∙◌, arith, lt-ltb, eq-eqb, eqb-true, le-leb, Ok, Err}
 use mathlib.Core.Bool.{false≢true}
 use borrow.Author.Tests.{eqb-false}
 use Rattle.words.specs.Tests.{both}
@@ -13,13 +13,11 @@ use Rattle.sections.specs.Section.{rules_at}
 use Rattle.sections.specs.Steps.{ok_at}
 use Rattle.reader.specs.Answer.{Shown, PlatShown, ReaderAnswer, refused, shows, all_shown, reader_gate, judge, read_of, code_in, minus}
 use Rattle.reader.specs.Reading.{refusal_number}
-use Rattle.faults.specs.Faults.{mk_fault, unless, rules_fault, fault_of, refusal_of, diagnosis_number}
+use Rattle.faults.specs.Faults.{Diagnosis, mk_fault, unless, rules_fault, fault_of, refusal_of, diagnosis_number}
 use Rattle.faults.specs.Promise.{BrokenAs, Broken, Diagnoses}
 use Rattle.faults.specs.declared.Rule.{Rule}
 use Rattle.faults.specs.declared.Rule.TheVariants as rule
 use Rattle.faults.specs.declared.Fault.{Fault}
-use Rattle.faults.specs.declared.Diagnosis.{Diagnosis}
-use Rattle.faults.specs.declared.Diagnosis.TheVariants.{Clear, At}
 use Rattle.faults.proofs.Order.{is_clear, clear-is, is-clear}
 use Rattle.faults.proofs.Clear.{rules-clear, fault-clear}
 use Rattle.faults.proofs.Holds.{Holds, hold_at, hold-unless, hold-map}
@@ -46,8 +44,8 @@ both-assoc false b c = refl
 
 -- ---- different rules are unequal
 unfoldable rule_of : Diagnosis → Rule
-rule_of Clear = rule.Length
-rule_of (At f) = f.rule
+rule_of (Ok u) = rule.Length
+rule_of (Err f) = f.rule
 
 not-checksum : rule.Length ≡ rule.Checksum → ⊥
 not-checksum h = let z : ◌≡◌ {A = ℕ} 0 1 = cc in omega arith
@@ -68,7 +66,7 @@ module _ (r base : ℕ) (page : List ℕ) where
   unfolding read_of judge rules_at
   gate = refl
 
-  accepts : fault_of r base page ≡ Clear → read_of r base page ≡ all_shown w e (platform_at base page) (page_section_at base page)
+  accepts : fault_of r base page ≡ Ok tt → read_of r base page ≡ all_shown w e (platform_at base page) (page_section_at base page)
   unfolding reader_gate
   accepts h =
       let t = sym (fault-clear r base page) ∙ is-clear _ h in
@@ -76,7 +74,7 @@ module _ (r base : ℕ) (page : List ℕ) where
       let v = both_r _ _ u in
       gate ∙ rw (both_l _ _ t, both_of _ _ (both_l _ _ u) (both_l _ _ v), both_r _ _ v)
 
-  accepted : (x y : ℕ) (q : PlatShown) (s : ℕ → Shown) → read_of r base page ≡ shows x y q s → fault_of r base page ≡ Clear
+  accepted : (x y : ℕ) (q : PlatShown) (s : ℕ → Shown) → read_of r base page ≡ shows x y q s → fault_of r base page ≡ Ok tt
   accepted x y q s h =
       clear-is _ (fault-clear r base page ∙ rw (← both-assoc (edition_ok r) (version_ok (version_at page)) (rules_at w e base page))
       (gate-shows _ _ _ _ x y q s (sym gate ∙ h)))
@@ -121,7 +119,7 @@ module _ (r base : ℕ) (page : List ℕ) where
   unfolding both
   both-last g h = rw (g, h)
 
-  rules-not : (f : Fault) → rules_fault w e base page ≡ At f → rules_at w e base page ≡ false
+  rules-not : (f : Fault) → rules_fault w e base page ≡ Err f → rules_at w e base page ≡ false
   unfolding is_clear
   rules-not f h = sym (rules-clear w e base page) ∙ rw h
 
@@ -137,7 +135,7 @@ module _ (r base : ℕ) (page : List ℕ) where
       (rules-broken r w e base page)))))
 
   -- ---- the wanted checksum
-  length-is : (f : Fault) → fault_of r base page ≡ At f → f.rule ≡ rule.Checksum → length page ≡ 4096
+  length-is : (f : Fault) → fault_of r base page ≡ Err f → f.rule ≡ rule.Checksum → length page ≡ 4096
   unfolding fault_of unless mk_fault rule_of
   length-is f h q = go (eqb (length page) 4096) refl
     where
@@ -145,7 +143,7 @@ module _ (r base : ℕ) (page : List ℕ) where
       go true g = eqb-true _ _ g
       go false g = absurd (not-checksum (ap rule_of (rw g at h) ∙ q))
 
-  mends : (f : Fault) → fault_of r base page ≡ At f → f.rule ≡ rule.Checksum →
+  mends : (f : Fault) → fault_of r base page ≡ Err f → f.rule ≡ rule.Checksum →
       ok_at w e base f.section (laid f.offset (le_bytes 8 f.wanted) page) ≡ true
   mends f h q =
       let n = length-is f h q in
@@ -168,8 +166,8 @@ module _ (r base : ℕ) (page : List ℕ) where
 -- its number is the reader's code
 diagnosis-number : (r base : ℕ) (page : List ℕ) (d : Diagnosis) → fault_of r base page ≡ d → diagnosis_number d ≡ code_in (read_of r base page)
 unfolding diagnosis_number code_in all_shown
-diagnosis-number r base page Clear h = rw ((diagnoses r base page).accepts h)
-diagnosis-number r base page (At f) h = rw ((diagnoses r base page).code f h)
+diagnosis-number r base page (Ok u) h = rw ((diagnoses r base page).accepts h)
+diagnosis-number r base page (Err f) h = rw ((diagnoses r base page).code f h)
 
 pub numbered : (r base : ℕ) (page : List ℕ) (d : Diagnosis) → d ≡ fault_of r base page →
     (d ≡ fault_of r base page) × (diagnosis_number d ≡ code_in (read_of r base page))

@@ -1,5 +1,5 @@
 -- The whole page, return by return: what the code read and computed, and what follows from it. Assumes nothing.
-use Rattle.std.proofs.Common.{◌≡◌, ℕ, ◌+◌, ◌^◌, ◌<◌, min, true, false, cond, List, length, sym, refl, ◌∙◌, arith, eq-eqb, ne_eqb}
+use Rattle.std.proofs.Common.{◌≡◌, ℕ, ◌+◌, ◌^◌, ◌<◌, min, true, false, cond, List, length, sym, refl, ◌∙◌, arith, eq-eqb, ne_eqb, Ok, Err}
 use mathlib.Core.Bool.{false≢true}
 use Rattle.words.specs.Word.{word_at}
 use Rattle.versions.specs.Version.{minor_of, version_ok}
@@ -10,21 +10,19 @@ use Rattle.sections.specs.Page.{place_ok, version_at, padding_at, page_platform,
 use Rattle.sections.specs.Section.{platform_ok}
 use Rattle.sections.specs.Steps.{plat_end, ok_to, end_of}
 use Rattle.sections.proofs.Sections.{placed, plat-broken, plat-ended, plat-top, ok-each, ok_end}
-use Rattle.faults.specs.Faults.{mk_fault, unless, first_fault, first_of, section_fault, clash, overlap, plat_fault, rules_fault, fault_of}
+use Rattle.faults.specs.Faults.{Diagnosis, mk_fault, unless, first_fault, first_of, section_fault, clash, overlap, plat_fault, rules_fault, fault_of}
 use Rattle.faults.specs.declared.Rule.TheVariants as rule
 use Rattle.faults.specs.declared.Fault.{Fault}
-use Rattle.faults.specs.declared.Diagnosis.{Diagnosis}
-use Rattle.faults.specs.declared.Diagnosis.TheVariants.{Clear, At}
 use Rattle.faults.proofs.Order.{is_clear, clear-is, is-clear, or_at, or-next}
 use Rattle.faults.proofs.Clear.{plat-clear, sections-clear}
 
 or-not : (a b : Diagnosis) → is_clear a ≡ false → first_fault a b ≡ a
 unfolding is_clear first_fault
-or-not Clear b h = absurd (false≢true (sym h))
-or-not (At f) b h = refl
+or-not (Ok u) b h = absurd (false≢true (sym h))
+or-not (Err f) b h = refl
 
 module _ (w e base : ℕ) (page : List ℕ) (hp : place_ok base (length page) ≡ true) (d : ℕ) (cd : d ≡ padding_at page) where
-  pub told-padding : (d ≡ 0 → ⊥) → At (mk_fault rule.Padding 0 0 4 d 0) ≡ rules_fault w e base page
+  pub told-padding : (d ≡ 0 → ⊥) → Err (mk_fault rule.Padding 0 0 4 d 0) ≡ rules_fault w e base page
   unfolding rules_fault unless
   told-padding n = rw (← cd, ne_eqb d 0 n)
 
@@ -65,10 +63,10 @@ module _ (w e base : ℕ) (page : List ℕ) (hp : place_ok base (length page) �
           rw (is-plat.1, cq) (omega (arith, p.3, plat-top e base page p.0 (rw (← cq) is-plat.0)))
 
       module _ (n : ℕ) (cn : n ≡ section_count e) (o : Diagnosis) (co : o ≡ first_of n (section_fault w e base page)) where
-        pub told-sections : (y : Fault) → o ≡ At y → o ≡ rules_fault w e base page
+        pub told-sections : (y : Fault) → o ≡ Err y → o ≡ rules_fault w e base page
         told-sections y f = or_at _ _ o (co ∙ rw cn) y f ∙ sym from-sections
 
-        module _ (f : o ≡ Clear) where
+        module _ (f : o ≡ Ok tt) where
           -- no array ends past the page
           pub told-ends : (k : ℕ) → k < n → end_of k page < 2 ^ 64
           told-ends k l =

@@ -1,7 +1,7 @@
 -- The first fault of a page, in the order of the reader's checks (RD2, RD6, RD7): the rule, its place in the page, and the word found
 -- there. Each test is the reader's own (crates sections, entries, fields). Law `accepts` of `Diagnoses` (Promise.antt) proves that there is
 -- no fault exactly if the reader accepts. Assumes nothing.
-use Rattle.std.specs.Prelude.{ℕ, zero, suc, ◌+◌, ◌-◌, ◌*◌, ◌%◌, ◌^◌, min, Bool, true, false, cond, not, List, length, drop, ℤ, pos, ◌==◌, nat_le, nat_lt, slice_index, slice_index_or}
+use Rattle.std.specs.Prelude.{ℕ, zero, suc, ◌+◌, ◌-◌, ◌*◌, ◌%◌, ◌^◌, min, Bool, true, false, cond, not, List, length, drop, ℤ, pos, ◌==◌, nat_le, nat_lt, slice_index, slice_index_or, Result, Ok, Err}
 use Rattle.words.specs.Tests.{both}
 use Rattle.words.specs.Word.{num_at, word_at}
 use Rattle.versions.specs.Version.{minor_of, version_ok}
@@ -20,27 +20,29 @@ use Rattle.reader.specs.declared.Refusal.TheVariants as refusal
 use Rattle.faults.specs.declared.Rule.{Rule}
 use Rattle.faults.specs.declared.Rule.TheVariants as rule
 use Rattle.faults.specs.declared.Fault.{Fault}
-use Rattle.faults.specs.declared.Diagnosis.{Diagnosis}
-use Rattle.faults.specs.declared.Diagnosis.TheVariants.{Clear, At}
 
 -- a fault: rule, section, index, offset, word found, word wanted
 unfoldable pub mk_fault : (rule : Rule) (section index offset found wanted : ℕ) → Fault
 mk_fault r k i off x y = record { rule = r; section = k; index = i; offset = off; found = x; wanted = y }
 
+-- a diagnosis: no fault, or the first one
+abbrev pub Diagnosis : Type 0
+Diagnosis = Result (Unit {0}) Fault
+
 -- ---- how tests are put in order
 -- the fault f if the test fails, otherwise d
 unfoldable pub unless : Bool → Fault → Diagnosis → Diagnosis
 unless true f d = d
-unless false f d = At f
+unless false f d = Err f
 
 -- the first fault of two diagnoses
 unfoldable pub first_fault : Diagnosis → Diagnosis → Diagnosis
-first_fault Clear d = d
-first_fault (At f) d = At f
+first_fault (Ok u) d = d
+first_fault (Err f) d = Err f
 
 -- the first fault of f 0, f 1, .. f (n - 1)
 unfoldable pub first_of : ℕ → (ℕ → Diagnosis) → Diagnosis
-first_of zero f = Clear
+first_of zero f = Ok tt
 first_of (suc n) f = first_fault (first_of n f) (f n)
 
 -- ---- an entry: the tests of `entry_rule`, one by one. It is entry i of section k, at offset `at` of the page.
@@ -50,7 +52,7 @@ bank_fault k i at b s =
     unless (b % 4096 == 0) (mk_fault rule.EntryBase k i at b 0)
     (unless (s % 4096 == 0) (mk_fault rule.EntrySize k i (at + 8) s 0)
     (unless (nat_lt 0 s) (mk_fault rule.EntryEmpty k i (at + 8) s 0)
-    (unless (nat_le (b + s) (2 ^ 52)) (mk_fault rule.EntryEnd k i (at + 8) s 0) Clear)))
+    (unless (nat_le (b + s) (2 ^ 52)) (mk_fault rule.EntryEnd k i (at + 8) s 0) (Ok tt))))
 
 -- "console: base a multiple of 4,096, map_pages not 0, base + 4,096 x map_pages at most 2^52, flags 0" on a page of minor w (E1, E3 to E5)
 unfoldable pub console_fault : (minor k i at base pages flags : ℕ) → Diagnosis
@@ -58,7 +60,7 @@ console_fault w k i at b n f =
     unless (b % 4096 == 0) (mk_fault rule.EntryBase k i at b 0)
     (unless (nat_lt 0 n) (mk_fault rule.EntryEmpty k i (at + 8) n 0)
     (unless (nat_le (b + 4096 * n) (2 ^ 52)) (mk_fault rule.EntryEnd k i (at + 8) n 0)
-    (unless (flags_ok w f) (mk_fault rule.EntryFlags k i (at + 40) f 0) Clear)))
+    (unless (flags_ok w f) (mk_fault rule.EntryFlags k i (at + 40) f 0) (Ok tt))))
 
 -- entry i of section k at offset `at` of a page of minor w
 unfoldable pub entry_fault : (minor k i at : ℕ) (page : List ℕ) → Diagnosis
@@ -77,7 +79,7 @@ wanted_sum c p ws = (2 ^ 64 - (c + p + sum ws) % 2 ^ 64) % 2 ^ 64
 
 -- the checksum (S4)
 unfoldable pub check_fault : (k count pointer check : ℕ) (words : List ℕ) → Diagnosis
-check_fault k c p s ws = unless (check_ok c p ws s) (mk_fault rule.Checksum k 0 (32 + 24 * k) s (wanted_sum c p ws)) Clear
+check_fault k c p s ws = unless (check_ok c p ws s) (mk_fault rule.Checksum k 0 (32 + 24 * k) s (wanted_sum c p ws)) (Ok tt)
 
 -- the entries in order, then the checksum
 unfoldable pub array_fault : (minor k count pointer check at : ℕ) (page : List ℕ) → Diagnosis
@@ -86,7 +88,7 @@ array_fault w k c p s at page = first_fault (first_of c (entry_of w k at page)) 
 -- the tests of `section_ok` (S1 to S4): 24 zero bytes, or count, pointer, place and array
 unfoldable pub section_tests : (minor edition base k count pointer check : ℕ) (page : List ℕ) → Diagnosis
 section_tests w e base k c p s page =
-    cond (nothing c p s) Clear
+    cond (nothing c p s) (Ok tt)
     (unless (nat_lt 0 c) (mk_fault rule.EmptySection k 0 (16 + 24 * k) c 0)
     (unless (p % 8 == 0) (mk_fault rule.ArrayPointer k 0 (24 + 24 * k) p 0)
     (unless (in_range e base k c p) (mk_fault rule.ArrayPlace k 0 (24 + 24 * k) p 0) (array_fault w k c p s (p - base) page))))
@@ -97,7 +99,7 @@ section_fault w e base page k = section_tests w e base k (count_at k page) (poin
 
 -- ---- overlaps: [from, to), whose pointer is at offset off of the page, with the array of section j
 unfoldable pub clash : (rule : Rule) (k offset from to : ℕ) (page : List ℕ) (j : ℕ) → Diagnosis
-clash r k off from to page j = unless (clear_at from to j page) (mk_fault r k j off from 0) Clear
+clash r k off from to page j = unless (clear_at from to j page) (mk_fault r k j off from 0) (Ok tt)
 
 -- the array of section i with each array before it, in order (S5)
 unfoldable pub overlap : List ℕ → ℕ → Diagnosis
@@ -112,17 +114,17 @@ field_fault r i off t m = mk_fault r 0 i off (t + 256 * m) 0
 unfoldable pub field_tests : (seen : Seen) (from i at tag len n : ℕ) → Diagnosis
 field_tests s from i at t m n =
     unless (nat_le (at + 3 + m) n) (field_fault rule.NoEndMark i (from + at) t m)
-    (cond (t == 0) (unless (m == 0) (field_fault rule.FieldTag i (from + at) t m) Clear)
+    (cond (t == 0) (unless (m == 0) (field_fault rule.FieldTag i (from + at) t m) (Ok tt))
     (unless (length_ok t m) (field_fault rule.FieldLength i (from + at) t m)
-    (unless (not (is_seen s t)) (field_fault rule.FieldTwice i (from + at) t m) Clear)))
+    (unless (not (is_seen s t)) (field_fault rule.FieldTwice i (from + at) t m) (Ok tt))))
 
 -- at most n fields, up to the end mark: enough for at most n bytes. A rule of its own: `fields_fault` is defined by it.
 unfoldable pub walk_fault : ℕ → Seen → ℕ → ℕ → ℕ → List ℕ → Diagnosis
-walk_fault zero s from i at bs = At (field_fault rule.NoEndMark i (from + at) (slice_index bs at) (num_at 2 (at + 1) bs))
+walk_fault zero s from i at bs = Err (field_fault rule.NoEndMark i (from + at) (slice_index bs at) (num_at 2 (at + 1) bs))
 walk_fault (suc n) s from i at bs =
     let t = slice_index_or bs at 0 in
     let m = num_at 2 (at + 1) bs in
-    first_fault (field_tests s from i at t m (length bs)) (cond (t == 0) Clear (walk_fault n (seen_with s t) from (i + 1) (at + 3 + m) bs))
+    first_fault (field_tests s from i at t m (length bs)) (cond (t == 0) (Ok tt) (walk_fault n (seen_with s t) from (i + 1) (at + 3 + m) bs))
 
 -- all fields of bs, which starts at offset `from` of the page (F1 to F4)
 unfoldable pub fields_fault : ℕ → List ℕ → Diagnosis
@@ -131,7 +133,7 @@ fields_fault from bs = walk_fault (length bs) none_seen from 0 0 bs
 -- "plat_data is 0 or lies from B + core size of e to B + 4,095" (R2), then its fields
 unfoldable pub plat_fault : ℕ → ℕ → ℕ → List ℕ → Diagnosis
 plat_fault e base q page =
-    cond (q == 0) Clear
+    cond (q == 0) (Ok tt)
     (unless (both (nat_le (base + core e) q) (nat_lt q (base + 4096))) (mk_fault rule.PlatPointer 0 0 8 q 0)
     (fields_fault (q - base) (drop (q - base) page)))
 
@@ -181,5 +183,5 @@ refusal_of rule.FieldsOverlap = refusal.Rules
 
 -- the reader's number for a diagnosis: 0 if there is no fault
 unfoldable pub diagnosis_number : Diagnosis → ℤ
-diagnosis_number Clear = pos 0
-diagnosis_number (At f) = refusal_number (refusal_of f.rule)
+diagnosis_number (Ok u) = pos 0
+diagnosis_number (Err f) = refusal_number (refusal_of f.rule)

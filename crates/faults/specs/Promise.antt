@@ -1,5 +1,5 @@
 -- What a diagnosis states about a page, rule by rule, as facts about its bytes. Assumes nothing.
-use Rattle.std.specs.Prelude.{◌≡◌, ℕ, zero, suc, ◌+◌, ◌-◌, ◌*◌, ◌%◌, ◌^◌, ◌<◌, ◌≤◌, min, true, false, cond, List, length, ◌==◌, ◌≢◌, slice_index}
+use Rattle.std.specs.Prelude.{◌≡◌, ℕ, zero, suc, ◌+◌, ◌-◌, ◌*◌, ◌%◌, ◌^◌, ◌<◌, ◌≤◌, min, true, false, cond, List, length, ◌==◌, ◌≢◌, slice_index, Ok, Err}
 use Rattle.words.specs.Word.{num_at, word_at, u32_at, le_bytes, laid}
 use Rattle.versions.specs.Version.{minor_of, version_ok}
 use Rattle.versions.specs.Edition.{section_count, core}
@@ -16,7 +16,6 @@ use Rattle.faults.specs.Faults.{refusal_of, fault_of}
 use Rattle.faults.specs.declared.Rule.{Rule}
 use Rattle.faults.specs.declared.Rule.TheVariants as rule
 use Rattle.faults.specs.declared.Fault.{Fault}
-use Rattle.faults.specs.declared.Diagnosis.TheVariants.{Clear, At}
 
 -- the offset of field j of a page whose first field is at offset `from`
 unfoldable pub field_place : ℕ → List ℕ → ℕ → ℕ
@@ -106,14 +105,14 @@ Broken r base page f = BrokenAs f.rule r (minor_of (version_at page)) (min r (mi
 -- what is proved of every diagnosis
 pub record Diagnoses (r base : ℕ) (page : List ℕ) : Type 0 where
   -- no fault exactly if the reader accepts, and then it shows the page (RD2, RD10)
-  pub accepts : fault_of r base page ≡ Clear → read_of r base page ≡ all_shown (minor_of (version_at page)) (min r (minor_of (version_at page)))
+  pub accepts : fault_of r base page ≡ Ok tt → read_of r base page ≡ all_shown (minor_of (version_at page)) (min r (minor_of (version_at page)))
       (platform_at base page) (page_section_at base page)
-  pub accepted : (w e : ℕ) (q : PlatShown) (s : ℕ → Shown) → read_of r base page ≡ shows w e q s → fault_of r base page ≡ Clear
+  pub accepted : (w e : ℕ) (q : PlatShown) (s : ℕ → Shown) → read_of r base page ≡ shows w e q s → fault_of r base page ≡ Ok tt
   -- the rule's code is the reader's (RD2)
-  pub code : (f : Fault) → fault_of r base page ≡ At f → read_of r base page ≡ refused (refusal_number (refusal_of f.rule))
+  pub code : (f : Fault) → fault_of r base page ≡ Err f → read_of r base page ≡ refused (refusal_number (refusal_of f.rule))
   -- the rule is broken at the place reported
-  pub broken : (f : Fault) → fault_of r base page ≡ At f → Broken r base page f
+  pub broken : (f : Fault) → fault_of r base page ≡ Err f → Broken r base page f
   -- the wanted checksum, written at the offset, makes the section keep its rule
-  pub mends : (f : Fault) → fault_of r base page ≡ At f → f.rule ≡ rule.Checksum →
+  pub mends : (f : Fault) → fault_of r base page ≡ Err f → f.rule ≡ rule.Checksum →
       ok_at (minor_of (version_at page)) (min r (minor_of (version_at page))) base f.section
       (laid f.offset (le_bytes 8 f.wanted) page) ≡ true

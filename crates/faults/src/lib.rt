@@ -2,7 +2,7 @@
 // docs/RULES.md, chapter 5.
 #![tactic(auto)]
 
-ghost use Rattle.std.specs.Prelude.{◌≡◌, ℕ, ◌+◌, ◌*◌, ◌%◌, ◌^◌, ◌<◌, ◌≤◌, true, length};
+ghost use Rattle.std.specs.Prelude.{◌≡◌, ℕ, ◌+◌, ◌*◌, ◌%◌, ◌^◌, ◌<◌, ◌≤◌, true, length, Err};
 ghost use Rattle.words.specs.Word.{num_at};
 ghost use Rattle.entries.specs.Entry.{size};
 ghost use Rattle.entries.specs.Array.{words_at};
@@ -12,7 +12,6 @@ ghost use Rattle.sections.specs.Section.{in_range};
 ghost use Rattle.sections.specs.Steps.{end_of};
 ghost use Rattle.reader.specs.Answer.{code_in, read_of};
 ghost use Rattle.faults.specs.Faults.{mk_fault, first_fault, first_of, bank_fault, console_fault, entry_fault, entry_of, check_fault, array_fault, section_fault, clash, overlap, field_fault, field_tests, fields_fault, plat_fault, rules_fault, fault_of, diagnosis_number};
-ghost use Rattle.faults.specs.declared.Diagnosis.TheVariants.{At};
 ghost use Rattle.faults.specs.declared.Rule.TheVariants.{FieldsOverlap};
 
 use fields::Seen;
@@ -57,13 +56,6 @@ pub struct Fault {
     pub wanted: u64,
 }
 
-// The result of a diagnosis: no fault, or the first one.
-#[derive(Clone, Copy)]
-pub enum Diagnosis {
-    Clear,
-    At(Fault),
-}
-
 // A fault with these values.
 fn found_at(
     rule: Rule,
@@ -72,10 +64,10 @@ fn found_at(
     offset: usize,
     found: u64,
     wanted: u64,
-) -> Diagnosis
-    ensures { result ≡ At (mk_fault rule section index offset found wanted) }
+) -> Result<(), Fault>
+    ensures { result ≡ Err (mk_fault rule section index offset found wanted) }
 {
-    Diagnosis::At(Fault {
+    Err(Fault {
         rule,
         section,
         index,
@@ -86,7 +78,7 @@ fn found_at(
 }
 
 // The first rule that bank or region `i` at offset `at` breaks.
-fn bank_fault(k: u8, i: usize, at: usize, base: u64, size: u64) -> Diagnosis
+fn bank_fault(k: u8, i: usize, at: usize, base: u64, size: u64) -> Result<(), Fault>
     requires { at < 0x1000 }
     ensures { result ≡ bank_fault k i at base size }
 {
@@ -105,7 +97,7 @@ fn bank_fault(k: u8, i: usize, at: usize, base: u64, size: u64) -> Diagnosis
     if words::ADDRESS_LIMIT - size < base {
         return found_at(Rule::EntryEnd, k, i, at + 8, size, 0);
     }
-    Diagnosis::Clear
+    Ok(())
 }
 
 // The first rule that console `i` at offset `at` breaks, on a page of minor `minor`.
@@ -117,7 +109,7 @@ fn console_fault(
     base: u64,
     pages: u64,
     flags: u64,
-) -> Diagnosis
+) -> Result<(), Fault>
     requires { at < 0x1000 }
     ensures { result ≡ console_fault minor k i at base pages flags }
 {
@@ -134,16 +126,16 @@ fn console_fault(
         return found_at(Rule::EntryEnd, k, i, at + 8, pages, 0);
     }
     if 4 < minor {
-        return Diagnosis::Clear;
+        return Ok(());
     }
     if flags != 0 {
         return found_at(Rule::EntryFlags, k, i, at + 40, flags, 0);
     }
-    Diagnosis::Clear
+    Ok(())
 }
 
 // The first rule that entry `i` of section `k` at offset `at` breaks.
-fn entry_fault(page: &[u8], minor: u64, k: u8, i: usize, at: usize) -> Diagnosis
+fn entry_fault(page: &[u8], minor: u64, k: u8, i: usize, at: usize) -> Result<(), Fault>
     requires { at < 0x1000 }
     ensures { result ≡ entry_fault minor k i at page.now }
 {
@@ -164,20 +156,17 @@ fn entry_fault(page: &[u8], minor: u64, k: u8, i: usize, at: usize) -> Diagnosis
 }
 
 // The first fault of `count` entries, in order.
-fn entries_fault(page: &[u8], minor: u64, k: u8, at: usize, count: usize) -> Diagnosis
+fn entries_fault(page: &[u8], minor: u64, k: u8, at: usize, count: usize) -> Result<(), Fault>
     requires { at + size k count ≤ 0x1000 }
     ensures { result ≡ first_of count (entry_of minor k at page.now) }
 {
     let step = 8 * entries::entry_words(k as usize);
     let mut from = at;
     for i in 0..count {
-        let told = entry_fault(page, minor, k, i, from);
-        let Diagnosis::Clear = told else {
-            return told;
-        };
+        entry_fault(page, minor, k, i, from)?;
         from += step;
     }
-    Diagnosis::Clear
+    Ok(())
 }
 
 // The sum of the `n` words from `at` on, modulo 2^64.
@@ -195,7 +184,14 @@ fn sum_words(page: &[u8], at: usize, n: usize) -> u64
 }
 
 // Checks the checksum of section `k`. The fault reports the correct one as `wanted`.
-fn check_fault(page: &[u8], k: u8, at: usize, count: u64, pointer: u64, check: u64) -> Diagnosis
+fn check_fault(
+    page: &[u8],
+    k: u8,
+    at: usize,
+    count: u64,
+    pointer: u64,
+    check: u64,
+) -> Result<(), Fault>
     requires { at + size k count ≤ 0x1000 }
     ensures { result ≡ check_fault k count pointer check (words_at k count at page.now) }
 {
@@ -213,7 +209,7 @@ fn check_fault(page: &[u8], k: u8, at: usize, count: u64, pointer: u64, check: u
             wanted,
         );
     }
-    Diagnosis::Clear
+    Ok(())
 }
 
 // The first fault of the array of section `k`: its entries in order, then its checksum.
@@ -225,19 +221,16 @@ fn array_fault(
     count: u64,
     pointer: u64,
     check: u64,
-) -> Diagnosis
+) -> Result<(), Fault>
     requires { at + size k count ≤ 0x1000 }
     ensures { result ≡ array_fault minor k count pointer check at page.now }
 {
-    let told = entries_fault(page, minor, k, at, count as usize);
-    let Diagnosis::Clear = told else {
-        return told;
-    };
+    entries_fault(page, minor, k, at, count as usize)?;
     check_fault(page, k, at, count, pointer, check)
 }
 
 // The first rule that section `k` by itself breaks, on a page of minor `minor` read as edition `e`.
-fn section_fault(page: &[u8], base: u64, minor: u64, e: Edition, k: u8) -> Diagnosis
+fn section_fault(page: &[u8], base: u64, minor: u64, e: Edition, k: u8) -> Result<(), Fault>
     requires { base ≤ 0x10_0000_0000_0000 }
     ensures { result ≡ section_fault minor e.minor base page.now k }
 {
@@ -245,7 +238,7 @@ fn section_fault(page: &[u8], base: u64, minor: u64, e: Edition, k: u8) -> Diagn
     let pointer = sections::pointer_at(page, k);
     let check = sections::check_at(page, k);
     if sections::is_nothing(count, pointer, check) {
-        return Diagnosis::Clear;
+        return Ok(());
     }
     if count == 0 {
         return found_at(
@@ -303,17 +296,14 @@ fn is_placed(base: u64, e: Edition, k: u8, count: u64, pointer: u64) -> bool
 }
 
 // The first fault of the first `n` sections, each by itself.
-fn sections_fault(page: &[u8], base: u64, minor: u64, e: Edition, n: u8) -> Diagnosis
+fn sections_fault(page: &[u8], base: u64, minor: u64, e: Edition, n: u8) -> Result<(), Fault>
     requires { base ≤ 0x10_0000_0000_0000 }
     ensures { result ≡ first_of n (section_fault minor e.minor base page.now) }
 {
     for k in 0..n {
-        let told = section_fault(page, base, minor, e, k);
-        let Diagnosis::Clear = told else {
-            return told;
-        };
+        section_fault(page, base, minor, e, k)?;
     }
-    Diagnosis::Clear
+    Ok(())
 }
 
 // The first of `n` arrays that overlaps [from, to). The fault reports `offset`, where the page holds the pointer `from`.
@@ -325,7 +315,7 @@ fn clash_fault(
     from: u64,
     to: u64,
     n: u8,
-) -> Diagnosis
+) -> Result<(), Fault>
     ensures { result ≡ first_of n (clash rule section offset from to page.now) }
 {
     for j in 0..n {
@@ -333,11 +323,11 @@ fn clash_fault(
             return found_at(rule, section, j as usize, offset, from, 0);
         }
     }
-    Diagnosis::Clear
+    Ok(())
 }
 
 // The first overlap of the array of section `i` with one before it.
-fn overlap_fault(page: &[u8], i: u8) -> Diagnosis
+fn overlap_fault(page: &[u8], i: u8) -> Result<(), Fault>
     requires { end_of i page.now < 0x1_0000_0000_0000_0000 }
     ensures { result ≡ overlap page.now i }
 {
@@ -356,23 +346,20 @@ fn overlap_fault(page: &[u8], i: u8) -> Diagnosis
 }
 
 // The first overlap among the first `n` arrays.
-fn overlaps_fault(page: &[u8], n: u8) -> Diagnosis
+fn overlaps_fault(page: &[u8], n: u8) -> Result<(), Fault>
     requires { (n ≤ 4) × ((k : ℕ) → k < n → end_of k page.now < 0x1_0000_0000_0000_0000) }
     ensures { result ≡ first_of n (overlap page.now) }
 {
     for i in 0..n {
-        let told = overlap_fault(page, i);
-        let Diagnosis::Clear = told else {
-            return told;
-        };
+        overlap_fault(page, i)?;
     }
-    Diagnosis::Clear
+    Ok(())
 }
 
 // A fault of field `i`, with tag + 256 * length as the word found.
-fn field_found(rule: Rule, i: usize, offset: usize, tag: u8, len: usize) -> Diagnosis
+fn field_found(rule: Rule, i: usize, offset: usize, tag: u8, len: usize) -> Result<(), Fault>
     requires { len < 0x1_0000 }
-    ensures { result ≡ At (field_fault rule i offset tag len) }
+    ensures { result ≡ Err (field_fault rule i offset tag len) }
 {
     let found = (tag as u64) + (len as u64) * 0x100;
     found_at(rule, 0, i, offset, found, 0)
@@ -387,7 +374,7 @@ fn field_fault(
     tag: u8,
     len: usize,
     n: usize,
-) -> Diagnosis
+) -> Result<(), Fault>
     requires { (len < 0x1_0000) × (from ≤ 0x1000) × (at ≤ 0x1000) }
     ensures { result ≡ field_tests seen from i at tag len n }
 {
@@ -399,7 +386,7 @@ fn field_fault(
         if len != 0 {
             return field_found(Rule::FieldTag, i, offset, tag, len);
         }
-        return Diagnosis::Clear;
+        return Ok(());
     }
     if !fields::length_ok(tag, len) {
         return field_found(Rule::FieldLength, i, offset, tag, len);
@@ -407,11 +394,11 @@ fn field_fault(
     if seen.has(tag) {
         return field_found(Rule::FieldTwice, i, offset, tag, len);
     }
-    Diagnosis::Clear
+    Ok(())
 }
 
 // The first fault of the fields in order, up to their end mark. `part` starts at offset `from` of the page.
-fn fields_fault(part: &[u8], from: usize) -> Diagnosis
+fn fields_fault(part: &[u8], from: usize) -> Result<(), Fault>
     requires { (from ≤ 0x1000) × (length part.now ≤ 0x1000) }
     ensures { result ≡ fields_fault from part.now }
 {
@@ -420,12 +407,9 @@ fn fields_fault(part: &[u8], from: usize) -> Diagnosis
     for i in 0..part.len() {
         let tag = words::byte_at(part, at);
         let len = words::u16_at(part, at + 1) as usize;
-        let told = field_fault(seen, from, i, at, tag, len, part.len());
-        let Diagnosis::Clear = told else {
-            return told;
-        };
+        field_fault(seen, from, i, at, tag, len, part.len())?;
         if tag == 0 {
-            return Diagnosis::Clear;
+            return Ok(());
         }
         seen = seen.with(tag);
         at = at + 3 + len;
@@ -440,12 +424,12 @@ fn fields_fault(part: &[u8], from: usize) -> Diagnosis
 }
 
 // The first fault of the platform pointer and its fields.
-fn plat_fault(page: &[u8], base: u64, e: Edition, plat: u64) -> Diagnosis
+fn plat_fault(page: &[u8], base: u64, e: Edition, plat: u64) -> Result<(), Fault>
     requires { (length page.now ≡ 4096) × (base ≤ 0x10_0000_0000_0000) }
     ensures { result ≡ plat_fault e.minor base plat page.now }
 {
     if plat == 0 {
-        return Diagnosis::Clear;
+        return Ok(());
     }
     if plat < base + e.core_size() {
         return found_at(Rule::PlatPointer, 0, 0, 8, plat, 0);
@@ -459,19 +443,16 @@ fn plat_fault(page: &[u8], base: u64, e: Edition, plat: u64) -> Diagnosis
 
 // The first overlap, if each section and the fields are good by themselves: of two arrays, then of the fields, which are at [plat, end),
 // and an array.
-fn overlaps(page: &[u8], plat: u64, end: u64, n: u8) -> Diagnosis
+fn overlaps(page: &[u8], plat: u64, end: u64, n: u8) -> Result<(), Fault>
     requires { (n ≤ 4) × ((k : ℕ) → k < n → end_of k page.now < 0x1_0000_0000_0000_0000) }
     ensures { result ≡ first_fault (first_of n (overlap page.now)) (first_of n (clash FieldsOverlap 0 8 plat end page.now)) }
 {
-    let told = overlaps_fault(page, n);
-    let Diagnosis::Clear = told else {
-        return told;
-    };
+    overlaps_fault(page, n)?;
     clash_fault(page, Rule::FieldsOverlap, 0, 8, plat, end, n)
 }
 
 // The first fault with code -7 of a page of minor `minor`, read as edition `e`.
-fn rules_fault(page: &[u8], base: u64, minor: u64, e: Edition) -> Diagnosis
+fn rules_fault(page: &[u8], base: u64, minor: u64, e: Edition) -> Result<(), Fault>
     requires { place_ok base (length page.now) ≡ true }
     ensures { result ≡ rules_fault minor e.minor base page.now }
 {
@@ -484,15 +465,12 @@ fn rules_fault(page: &[u8], base: u64, minor: u64, e: Edition) -> Diagnosis
         return plat_fault(page, base, e, plat);
     };
     let n = e.sections();
-    let told = sections_fault(page, base, minor, e, n);
-    let Diagnosis::Clear = told else {
-        return told;
-    };
+    sections_fault(page, base, minor, e, n)?;
     overlaps(page, plat, plat + (taken as u64), n)
 }
 
-// The first fault that a reader of `edition` finds in a lent page at `base`, in the order of its checks; `Clear` if the page has no fault.
-pub fn first_fault(page: &[u8], base: u64, edition: u64) -> Diagnosis
+// The first fault that a reader of `edition` finds in a lent page at `base`, in the order of its checks; `Ok` if the page has no fault.
+pub fn first_fault(page: &[u8], base: u64, edition: u64) -> Result<(), Fault>
     ensures value { result ≡ fault_of edition base page.now }
     ensures result_value { diagnosis_number result ≡ code_in (read_of edition base page.now) }
 {

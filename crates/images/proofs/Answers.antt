@@ -1,4 +1,5 @@
 -- The image of an enum in the code is the image of the answer in the definitions. Assumes nothing.
+use Rattle.std.proofs.Common.{Ok, Err}
 use Prim.Native.Nat.{ℕ}
 use mathlib.Core.Path.{◌≡◌, refl, ap, ◌∙◌}
 use mathlib.Core.List.{List}
@@ -11,9 +12,8 @@ use Rattle.std.specs.Prelude.{Result, Ok, Err}
 use Rattle.reader.specs.declared.View.{View}
 use Rattle.reader.proofs.Whole.{reading-answer}
 use Rattle.writer_rules.specs.Write.{Made}
-use Rattle.writer_rules.specs.Wrote.{made_by as made_of}
-use Rattle.writer_rules.specs.declared.Wrote.{Wrote}
-use Rattle.writer_rules.specs.declared.Wrote.TheVariants.{Page, Place, Edition, BadEntry, SectionAfterEdition, TooLong}
+use Rattle.writer_rules.specs.Wrote.{Wrote, made_by as made_of}
+use Rattle.writer_rules.specs.declared.WriteError.TheVariants.{Place, Edition, BadEntry, SectionAfterEdition, TooLong}
 use Rattle.images.specs.Image.{view_words, answer_words, made_number, wrote_number}
 
 -- ---- the reader's answer
@@ -34,12 +34,12 @@ module _ (e base : ℕ) (page : List ℕ) where
 -- ---- the writer's answer
 made-number : (page : List ℕ) (x : Wrote) → wrote_number x ≡ made_number (made_of page x)
 unfolding wrote_number made_number made_of
-made-number page Page = refl
-made-number page Place = refl
-made-number page Edition = refl
-made-number page BadEntry = refl
-made-number page SectionAfterEdition = refl
-made-number page TooLong = refl
+made-number page (Ok u) = refl
+made-number page (Err Place) = refl
+made-number page (Err Edition) = refl
+made-number page (Err BadEntry) = refl
+made-number page (Err SectionAfterEdition) = refl
+made-number page (Err TooLong) = refl
 
 pub wrote-code : (page : List ℕ) (x : Wrote) (m : Made) → made_of page x ≡ m → wrote_number x ≡ made_number m
 wrote-code page x m h = made-number page x ∙ ap made_number h

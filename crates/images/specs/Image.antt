@@ -1,6 +1,6 @@
 -- States and answers as images, the lists of words that a C caller lends (CE1). Every image has a state, also a forged one (CE2). Assumes
 -- nothing.
-use Rattle.std.specs.Prelude.{ℕ, ◌+◌, Bool, cond, List, [], ◌∷◌, get_or, replicate, eqb, Option, Some, None}
+use Rattle.std.specs.Prelude.{ℕ, ◌+◌, Bool, cond, List, [], ◌∷◌, get_or, replicate, eqb, Option, Some, None, Ok, Err}
 use Rattle.words.specs.declared.Span.{Span}
 use Rattle.boot.specs.declared.Record.{Record}
 use Rattle.boot.specs.declared.Record.TheVariants.{Fresh, Up, Closed}
@@ -20,8 +20,8 @@ use Rattle.runtime.specs.declared.Reply.TheVariants.{Forward, Back}
 use Rattle.token_rules.specs.declared.Session.{Session}
 use Rattle.token_rules.specs.declared.Session.TheVariants.{Idle, Sending}
 use Rattle.writer_rules.specs.Write.{Made, no-page, a-page}
-use Rattle.writer_rules.specs.declared.Wrote.{Wrote}
-use Rattle.writer_rules.specs.declared.Wrote.TheVariants.{Page, Place, Edition, BadEntry, SectionAfterEdition, TooLong}
+use Rattle.writer_rules.specs.Wrote.{Wrote}
+use Rattle.writer_rules.specs.declared.WriteError.TheVariants.{Place, Edition, BadEntry, SectionAfterEdition, TooLong}
 
 -- ---- the boot record: 0 fresh, 1 up, any other number closed; then cpus, base, minor and kept bytes
 unfoldable pub record_of : List ℕ → Record
@@ -121,14 +121,14 @@ unfoldable pub made_number : Made → ℕ
 made_number (no-page n) = n
 made_number (a-page p) = 0
 
--- the same for the enum in the code
+-- the same for the result in the code
 unfoldable pub wrote_number : Wrote → ℕ
-wrote_number Page = 0
-wrote_number Place = 1
-wrote_number Edition = 2
-wrote_number BadEntry = 3
-wrote_number SectionAfterEdition = 4
-wrote_number TooLong = 5
+wrote_number (Ok u) = 0
+wrote_number (Err Place) = 1
+wrote_number (Err Edition) = 2
+wrote_number (Err BadEntry) = 3
+wrote_number (Err SectionAfterEdition) = 4
+wrote_number (Err TooLong) = 5
 
 -- ---- a part of the page: its offset and its length
 unfoldable pub span_words : Span → List ℕ

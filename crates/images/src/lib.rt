@@ -16,7 +16,7 @@ use reader::{Section, View};
 use realm_words::{Agreement, Hit, Number};
 use token::Session;
 use words::Span;
-use writer::Wrote;
+use writer::WriteError;
 
 // The boot record of an image: word 0 is 0 for fresh, 1 for up, any other number for closed.
 pub fn record_of(image: &[u64; 5]) -> Record
@@ -162,16 +162,16 @@ pub fn kept_for(page: &[u8], image: &[u64; 15]) -> u64
 }
 
 // The writer's answer as a number: 0 for a page, or 1 to 5 for W1 to W5.
-pub fn wrote_number(wrote: Wrote) -> u32
+pub fn wrote_number(wrote: Result<(), WriteError>) -> u32
     ensures { result ≡ wrote_number wrote }
 {
     match wrote {
-        Wrote::Page => 0,
-        Wrote::Place => 1,
-        Wrote::Edition => 2,
-        Wrote::BadEntry => 3,
-        Wrote::SectionAfterEdition => 4,
-        Wrote::TooLong => 5,
+        Ok(()) => 0,
+        Err(WriteError::Place) => 1,
+        Err(WriteError::Edition) => 2,
+        Err(WriteError::BadEntry) => 3,
+        Err(WriteError::SectionAfterEdition) => 4,
+        Err(WriteError::TooLong) => 5,
     }
 }
 

@@ -1,5 +1,7 @@
 -- The page during mending: what the reader finds for each part, compared with the page at entry. A kept part is after the core, so no zeros reach it.
 -- Assumes nothing.
+use Rattle.std.proofs.Common.{Some, None}
+use Rattle.std.specs.Option.{unwrap_or}
 use Prim.Native.Nat.{ℕ, zero, suc, ◌+◌, ◌-◌, ◌*◌, ◌≤◌, ◌<◌}
 use mathlib.Core.Bool.{Bool, true, false, cond, not, false≢true}
 use mathlib.Core.Logic.{◌⊎◌, inl, inr}
@@ -16,10 +18,10 @@ use Rattle.words.proofs.Tests.{both_l, both_r, both_of, some_of, every-same, con
 use Rattle.words.proofs.Read.{part_same}
 use Rattle.versions.specs.Edition.{section_count, core}
 use Rattle.entries.specs.Entry.{size}
-use Rattle.fields.specs.Fields.{ended, is_ended}
+use Rattle.fields.specs.Fields.{ended, is_ended, taken}
 use Rattle.fields.proofs.Withdrawn.{both-no}
 use Rattle.sections.specs.Page.{version_at, padding_at, count_at, pointer_at, check_at, in_page, array_at, page_section, page_section_at}
-use Rattle.sections.specs.Page.{page_platform, found_at, platform_at}
+use Rattle.sections.specs.Page.{PagePlatform, page_platform, found_at, platform_at}
 use Rattle.sections.specs.Section.{platform_ok, words_in, nothing, in_range, section_ok, Extent, extent, apart, clear_before, plat_extent}
 use Rattle.sections.specs.Section.{plat_clear}
 use Rattle.sections.specs.Steps.{ok_at, end_of, clear_at, clear_from, stays_at}
@@ -28,7 +30,7 @@ use Rattle.fields.proofs.Rules.{no_test}
 use Rattle.reader.proofs.Gaps.{some-not}
 use Rattle.mend.specs.Mend.{no_platform, no_section, plat_left, stays, after_mending, keeps_section, minor_at, edition_at, plat_left_at}
 use Rattle.mend.specs.Mend.{keeps_at, changed, part_at, of_part, parts_zeroed}
-use Rattle.mend.specs.Steps.{page_to, plat_kept, section_goes}
+use Rattle.mend.specs.Steps.{page_to, fields_at, plat_kept, fields_left, section_goes}
 use Rattle.mend.proofs.Kept.{left-later, left-before}
 use Rattle.mend.proofs.Blank.{blank-length, blank-at, part-zero, part-bounds, part_of, one-part}
 
@@ -191,15 +193,15 @@ module _ (base : ℕ) (page : List ℕ) (n : ℕ) where
   -- the platform data, before it is changed
   pub plat-to : n ≤ 1 → plat_kept (edition_at page) base (platform_at base (page_to n base page)) ≡ plat_kept (edition_at page) base
       (platform_at base page)
-  unfolding plat_kept plat_left platform_at
+  unfolding plat_kept platform_at
   plat-to l =
       rw (
         pointer-stands base page n (λ h. absurd (let z : ⊥ = omega arith in z)),
         plat-rest (minor_at page) (edition_at page) base (page_to n base page) page (to-length base page n) rest (word_at 8 page),
         cond_same (platform_ok (edition_at page) base (page_platform (word_at 8 page) (found_at base page (word_at 8 page))))
-            (page_platform (word_at 8 page) (found_at base (page_to n base page) (word_at 8 page)))
-            (page_platform (word_at 8 page) (found_at base page (word_at 8 page))) no_platform
-            (λ h. ap (page_platform (word_at 8 page)) (found-held (minor_at page) (edition_at page) base (page_to n base page) page
+            (Some (fields_at (page_platform (word_at 8 page) (found_at base (page_to n base page) (word_at 8 page)))))
+            (Some (fields_at (page_platform (word_at 8 page) (found_at base page (word_at 8 page))))) None
+            (λ h. ap (λ x. Some (fields_at (page_platform (word_at 8 page) x))) (found-held (minor_at page) (edition_at page) base (page_to n base page) page
             (to-length base page n) rest (word_at 8 page) h)),
       )
 
@@ -261,6 +263,15 @@ own-extent : (k base : ℕ) (p : List ℕ) → ◌≡◌ {A = Extent} (record { 
 unfolding extent page_section_at page_section end_of
 own-extent k base p = refl
 
+-- the addresses that the code passes on are those of the platform data that is left
+left-fields : (e base : ℕ) (q : PagePlatform) → fields_left (plat_kept e base q) ≡ fields_at (plat_left e base q)
+unfolding fields_left plat_kept fields_at plat_left plat_extent no_platform page_platform taken
+left-fields e base q = go (platform_ok e base q)
+  where
+    go : (b : Bool) → unwrap_or (cond b (Some (fields_at q)) None) (record { from = 0; to = 0 }) ≡ fields_at (cond b q no_platform)
+    go true = refl
+    go false = refl
+
 -- section k is changed by the test on the page so far exactly if it is by the test on the page at entry
 module _ (base : ℕ) (page : List ℕ) (k : ℕ) where
   before-to : k < section_count (edition_at page) →
@@ -292,7 +303,7 @@ module _ (base : ℕ) (page : List ℕ) (k : ℕ) where
         left-later (minor_at page) (edition_at page) base (plat_left_at base page) (page_section_at base page) k k (omega arith),
       )
 
-  pub goes_to : section_goes (minor_at page) (edition_at page) base (plat_kept (edition_at page) base (platform_at base page)) k
+  pub goes_to : section_goes (minor_at page) (edition_at page) base (fields_left (plat_kept (edition_at page) base (platform_at base page))) k
       (page_to (suc (suc k)) base page) ≡ changed base page (suc (suc k))
-  unfolding section_goes plat_kept changed plat_left_at
-  goes_to = both-then (ltb k (section_count (edition_at page))) _ _ (λ h. ap not (stays-to (ltb-true _ _ h)))
+  unfolding section_goes fields_at changed plat_left_at
+  goes_to = rw (left-fields (edition_at page) base (platform_at base page)) (both-then (ltb k (section_count (edition_at page))) _ _ (λ h. ap not (stays-to (ltb-true _ _ h))))

@@ -1,4 +1,6 @@
 -- The mender's steps in order: each leaves the page with one more part mended. Assumes nothing.
+use Rattle.std.proofs.Common.{Option, Some, None, Ok, Err}
+use Rattle.std.specs.Option.{is_some, is_none}
 use Prim.Native.Nat.{ℕ, zero, suc, ◌+◌, ◌-◌, ◌*◌, ◌≤◌, ◌<◌}
 use mathlib.Core.Bool.{Bool, true, false, cond, not}
 use mathlib.Core.Path.{◌≡◌, refl, sym, ap, ◌∙◌}
@@ -16,19 +18,16 @@ use Rattle.versions.specs.Version.{version_ok}
 use Rattle.versions.specs.Edition.{section_count}
 use Rattle.fields.specs.Fields.{taken}
 use Rattle.fields.proofs.Withdrawn.{both-no}
-use Rattle.std.proofs.Common.{Option, Some, None}
-use Rattle.sections.specs.Page.{place_ok, version_at, padding_at, page_platform, platform_at}
+use Rattle.sections.specs.Page.{place_ok, version_at, padding_at, PagePlatform, page_platform, platform_at}
 use Rattle.sections.specs.Section.{platform_ok, plat_extent}
 use Rattle.sections.specs.Steps.{plat_end, stays_at}
 use Rattle.sections.proofs.Sections.{placed, plat-broken, plat-ended}
 use Rattle.reader.specs.declared.Refusal.TheVariants.{Place, Version}
-use Rattle.mend.specs.Mend.{no_platform, plat_left, minor_at, edition_at, changed, part_at, mend_changes, mend_gate, mended_of, mend_answer}
+use Rattle.mend.specs.Mend.{Mended, no_platform, plat_left, minor_at, edition_at, changed, part_at, mend_changes, mend_gate, mended_of, mend_answer}
 use Rattle.mend.specs.Mend.{mend_numbers, mend_of, mended_page}
-use Rattle.mend.specs.Steps.{page_to, zeroed, plat_kept, section_goes}
+use Rattle.mend.specs.Steps.{page_to, zeroed, fields_at, plat_kept, fields_left, section_goes}
 use Rattle.mend.specs.declared.Changes.{Changes}
-use Rattle.mend.specs.declared.PlatKept.{PlatKept}
-use Rattle.mend.specs.declared.Mended.{Mended}
-use Rattle.mend.specs.declared.Mended.TheVariants.{Done, Refused}
+use Rattle.mend.specs.declared.KeptFields.{KeptFields}
 use Rattle.mend.proofs.Blank.{blank_none, zeroed-blank}
 use Rattle.mend.proofs.Pages.{to-all, plat-to, goes_to}
 
@@ -66,23 +65,36 @@ module _ (page : List ℕ) where
 -- the platform data: what the result of the reader's rule means
 module _ (e base : ℕ) (page : List ℕ) where
   pub plat-goes : None ≡ plat_end e base (platform_at base page) → (p : List ℕ) → p ≡ laid 8 (le_bytes 8 0) page →
-      (◌≡◌ {A = PlatKept} (record { changed = true; from = 0; to = 0 }) (plat_kept e base (platform_at base page))) ×
-      (p ≡ zeroed true 8 (le_bytes 8 0) page)
-  unfolding plat_kept plat_left plat_extent no_platform page_platform taken zeroed
+      (None ≡ plat_kept e base (platform_at base page)) × (p ≡ zeroed true 8 (le_bytes 8 0) page)
+  unfolding plat_kept zeroed
   plat-goes h p z = (rw (plat-broken e base (platform_at base page) h), z)
 
   pub plat-stays : (m : ℕ) → Some m ≡ plat_end e base (platform_at base page) →
-      (◌≡◌ {A = PlatKept} (record { changed = false; from = word_at 8 page; to = word_at 8 page + m })
-      (plat_kept e base (platform_at base page))) × (page ≡ zeroed false 8 (le_bytes 8 0) page)
-  unfolding plat_kept plat_left plat_extent platform_at page_platform zeroed
+      (Some (record { from = word_at 8 page; to = word_at 8 page + m }) ≡ plat_kept e base (platform_at base page)) ×
+      (page ≡ zeroed false 8 (le_bytes 8 0) page)
+  unfolding plat_kept fields_at plat_extent platform_at page_platform zeroed
   plat-stays m h = let a = plat-ended e base (platform_at base page) m h in (rw (a.0, a.1), refl)
+
+-- the fields go exactly if the pointer or they break their rule
+none-kept : (e base : ℕ) (q : PagePlatform) → is_none (plat_kept e base q) ≡ not (platform_ok e base q)
+unfolding plat_kept
+none-kept e base q = go (platform_ok e base q)
+  where
+    go : (b : Bool) → is_none (cond b (Some (fields_at q)) None) ≡ not b
+    go true = refl
+    go false = refl
+
+-- what the caller of `mend_plat` makes of it
+pub dropped_told : (k : Option KeptFields) (b : Bool) → is_some k ≡ not b → b ≡ is_none k
+dropped_told k true h = rw h refl
+dropped_told k false h = rw h refl
 
 -- what an entry of `sections` promises for a page with a good base and length
 pub rule_told : {b : Bool} {r x : Option ℕ} → Yes b → r ≡ cond b x None → r ≡ x
 rule_told {x = x} h e = e ∙ ap (λ t. cond t x None) h
 
 -- a section
-module _ (w e base : ℕ) (f : PlatKept) (k : ℕ) (page : List ℕ) where
+module _ (w e base : ℕ) (f : KeptFields) (k : ℕ) (page : List ℕ) where
   pub section-lacks : section_count e ≤ k → (false ≡ section_goes w e base f k page) ×
       (page ≡ zeroed false (16 + 24 * k) (bytes_of (0 ∷ 0 ∷ 0 ∷ [])) page)
   unfolding section_goes zeroed both
@@ -128,17 +140,18 @@ module _ (base : ℕ) (page : List ℕ) (place : Yes (place_ok base (length page
         next-to 0 (le_bytes 4 0) (le_bytes-length 4 0) (lit≤ tt) (zero-at 4)),
   )
 
-  pub plat-step : (e : ℕ) (r : PlatKept) (p p' : List ℕ) → e ≡ edition_at page → p ≡ page_to 1 base page →
-      r ≡ plat_kept e base (platform_at base p) → p' ≡ zeroed r.changed 8 (le_bytes 8 0) p →
-      (r ≡ plat_kept (edition_at page) base (platform_at base page)) × (r.changed ≡ changed base page 1) × (p' ≡ page_to 2 base page)
-  unfolding changed part_at plat_kept
+  pub plat-step : (e : ℕ) (r : Option KeptFields) (p p' : List ℕ) → e ≡ edition_at page → p ≡ page_to 1 base page →
+      r ≡ plat_kept e base (platform_at base p) → p' ≡ zeroed (is_none r) 8 (le_bytes 8 0) p →
+      (r ≡ plat_kept (edition_at page) base (platform_at base page)) × (is_none r ≡ changed base page 1) × (p' ≡ page_to 2 base page)
+  unfolding changed part_at
   plat-step e r p p' a b c h =
       let x : r ≡ plat_kept (edition_at page) base (platform_at base page) = c ∙ rw (a, b) (plat-to base page 1 (lit≤ tt)) in
-      let y : r.changed ≡ not (platform_ok (edition_at page) base (platform_at base page)) = ap (λ (k : PlatKept). k.changed) x in
+      let y : is_none r ≡ not (platform_ok (edition_at page) base (platform_at base page)) =
+      ap (λ (k : Option KeptFields). is_none k) x ∙ none-kept (edition_at page) base (platform_at base page) in
       (x, y, h ∙ rw (y, b) (next-to 1 (le_bytes 8 0) (le_bytes-length 8 0) (lit≤ tt) (zero-at 8)))
 
-  pub section-step : (w e k : ℕ) (f : PlatKept) (r : Bool) (p p' : List ℕ) → k < 4 → w ≡ minor_at page → e ≡ edition_at page →
-      f ≡ plat_kept (edition_at page) base (platform_at base page) →
+  pub section-step : (w e k : ℕ) (f : KeptFields) (r : Bool) (p p' : List ℕ) → k < 4 → w ≡ minor_at page → e ≡ edition_at page →
+      f ≡ fields_left (plat_kept (edition_at page) base (platform_at base page)) →
       p ≡ page_to (suc (suc k)) base page → r ≡ section_goes w e base f k p → p' ≡ zeroed r (16 + 24 * k) (bytes_of (0 ∷ 0 ∷ 0 ∷ [])) p →
       (r ≡ changed base page (suc (suc k))) × (p' ≡ page_to (suc (suc (suc k))) base page)
   unfolding part_at
@@ -165,15 +178,15 @@ unfolding mended_of mend_of mend_changes
 mend-told base page after a h = (h.0, (h.1, ap mend_answer h.0 ∙ gate-numbers (place_ok base (length page)) (version_ok (version_at page)) (mend_changes base page)))
 
 module _ (base : ℕ) (page : List ℕ) where
-  pub mend-place : place_ok base (length page) ≡ false → (Refused Place ≡ mended_of base page) × (page ≡ mended_page base page)
+  pub mend-place : place_ok base (length page) ≡ false → (Err Place ≡ mended_of base page) × (page ≡ mended_page base page)
   unfolding mended_of mend_gate mended_page both
   mend-place h = (rw h, rw h)
 
   module _ (h : place_ok base (length page) ≡ true) where
-    pub mend-version : version_ok (version_at page) ≡ false → (Refused Version ≡ mended_of base page) × (page ≡ mended_page base page)
+    pub mend-version : version_ok (version_at page) ≡ false → (Err Version ≡ mended_of base page) × (page ≡ mended_page base page)
     unfolding mended_of mend_gate mended_page both
     mend-version v = (rw (h, v), rw (h, v))
 
-    pub mend-done : version_ok (version_at page) ≡ true → (Done (mend_changes base page) ≡ mended_of base page) × (page_to 6 base page ≡ mended_page base page)
+    pub mend-done : version_ok (version_at page) ≡ true → (Ok (mend_changes base page) ≡ mended_of base page) × (page_to 6 base page ≡ mended_page base page)
     unfolding mended_of mend_gate mended_page both
     mend-done v = (rw (h, v), rw (h, v) (to-all base page))

@@ -1,5 +1,6 @@
 -- Request E12: three sections of a 0.4 page name one array. The first has a wrong checksum and is dropped, so it overlaps nothing and the
 -- second is kept; the third overlaps the second and is dropped. Assumes nothing.
+use Rattle.std.proofs.Common.{Ok}
 use Prim.Native.Nat.{ℕ}
 use mathlib.Core.Bool.{true, false}
 use mathlib.Core.Path.{◌≡◌, refl}
@@ -16,7 +17,6 @@ use Rattle.sections.specs.Page.{place_ok, in_page, array_at, page_section, page_
 use Rattle.sections.specs.Section.{platform_ok, words_in, nothing, in_range, section_ok, extent, apart, clear_before, plat_extent, plat_clear}
 use Rattle.mend.specs.Mend.{no_section, plat_left, stays, after_mending, keeps_section, plat_left_at, keeps_at, changed, mend_changes}
 use Rattle.mend.specs.Mend.{mend_gate, mended_of}
-use Rattle.mend.specs.declared.Mended.TheVariants.{Done}
 
 -- a section of one entry after the core, by its checksum
 unfoldable pub one_there : ℕ → List ℕ
@@ -29,7 +29,7 @@ three_on_one =
     ++ one_there 0 ++ replicate 24 0 ++ one_there 0xFFFFFFFEDFFFFF8F ++ one_there 0xFFFFFFFEDFFFFF8F
     ++ le_bytes 8 0x90000000 ++ le_bytes 8 0x10000000 ++ replicate 3968 0
 
-pub second-kept : mended_of 0x80000000 three_on_one ≡ Done (record
+pub second-kept : mended_of 0x80000000 three_on_one ≡ Ok (record
     { padding = false; plat = false; dram = true; console = false; ncoh = false; coh = true })
 unfolding one_there three_on_one mended_of mend_gate mend_changes changed keeps_at keeps_section stays after_mending plat_left_at plat_left no_section
     plat_clear plat_extent taken found_at clear_before apart extent section_ok in_range nothing words_in platform_ok platform_at page_platform

@@ -1,4 +1,5 @@
 -- MD1 to MD7, the claims of the mender, proved. Assumes nothing.
+use Rattle.std.proofs.Common.{Ok, Err}
 use Prim.Native.Nat.{ℕ, zero, suc, ◌≤◌, ◌<◌}
 use mathlib.Core.Bool.{Bool, true, false, cond, not}
 use mathlib.Core.Logic.{◌⊎◌, inl, inr}
@@ -29,13 +30,11 @@ use Rattle.reader.proofs.Newer.{never, gate-shows, gate-true}
 use Rattle.reader.proofs.Named.{rules-same, view-same}
 use Rattle.fields.proofs.Rules.{no_test}
 use Rattle.reader.proofs.Gaps.{some-not}
-use Rattle.mend.specs.Mend.{no_platform, no_section, plat_left, minor_at, edition_at, plat_left_at, keeps_at, changed, of_part}
+use Rattle.mend.specs.Mend.{Mended, no_platform, no_section, plat_left, minor_at, edition_at, plat_left_at, keeps_at, changed, of_part}
 use Rattle.mend.specs.Mend.{mend_changes, mend_gate, mended_of, mended_page, parts_zeroed}
 use Rattle.mend.specs.Steps.{page_to}
 use Rattle.mend.specs.Promise.{Mends}
 use Rattle.mend.specs.declared.Changes.{Changes}
-use Rattle.mend.specs.declared.Mended.{Mended}
-use Rattle.mend.specs.declared.Mended.TheVariants.{Done, Refused}
 use Rattle.mend.proofs.Kept.{last_of, last-rules, plat-left-ok, keeps-rule, keeps-none, keeps-all, keeps-is}
 use Rattle.mend.proofs.Blank.{blank_none}
 use Rattle.mend.proofs.Pages.{never_both, to-length, part-stands, part-zeroed, rest-stands, version-to, padding-stands}
@@ -155,7 +154,7 @@ module _ (base : ℕ) (page : List ℕ) (w e : ℕ) (q : PlatShown) (s : ℕ →
       (λ k l y. never_both (changed base page k) (both_l _ _ y) (none-changed k))))
 
   comes-out : (mended_page base page ≡ page) × ((j : ℕ) → changed base page j ≡ false)
-      × (mended_of base page ≡ Done (record { padding = false; plat = false; dram = false; console = false; ncoh = false; coh = false }))
+      × (mended_of base page ≡ Ok (record { padding = false; plat = false; dram = false; console = false; ncoh = false; coh = false }))
   unfolding mend_changes
   comes-out =
       let d = mend-done base page passed.0 passed.1 in (
@@ -175,7 +174,7 @@ apart-codes : {a b : ReaderAnswer} (n m : ℕ) → number_in a ≡ n → number_
 apart-codes n m x y d e = d (sym x ∙ ap number_in e ∙ y)
 
 gate-5 : (p v o : Bool) (w e : ℕ) (q : PlatShown) (s : ℕ → Shown) (c : Changes) → reader_gate p v o (shows w e q s) ≡ refused (minus 5) →
-    mend_gate p v c ≡ Refused Place
+    mend_gate p v c ≡ Err Place
 unfolding reader_gate mend_gate
 gate-5 true true true w e q s c h = absurd (never (sym h))
 gate-5 true true false w e q s c h = absurd (apart-codes 6 4 refl refl (λ z. omega arith) h)
@@ -183,7 +182,7 @@ gate-5 true false o w e q s c h = absurd (apart-codes 5 4 refl refl (λ z. omega
 gate-5 false v o w e q s c h = refl
 
 gate-6 : (p v o : Bool) (w e : ℕ) (q : PlatShown) (s : ℕ → Shown) (c : Changes) → reader_gate p v o (shows w e q s) ≡ refused (minus 6) →
-    mend_gate p v c ≡ Refused Version
+    mend_gate p v c ≡ Err Version
 unfolding reader_gate mend_gate
 gate-6 true true true w e q s c h = absurd (never (sym h))
 gate-6 true true false w e q s c h = absurd (apart-codes 6 5 refl refl (λ z. omega arith) h)
@@ -191,7 +190,7 @@ gate-6 true false o w e q s c h = refl
 gate-6 false v o w e q s c h = absurd (apart-codes 4 5 refl refl (λ z. omega arith) h)
 
 gate-7 : (p v o : Bool) (w e : ℕ) (q : PlatShown) (s : ℕ → Shown) (c : Changes) → reader_gate p v o (shows w e q s) ≡ refused (minus 7) →
-    mend_gate p v c ≡ Done c
+    mend_gate p v c ≡ Ok c
 unfolding reader_gate mend_gate
 gate-7 true true true w e q s c h = absurd (never (sym h))
 gate-7 true true false w e q s c h = refl
@@ -199,30 +198,30 @@ gate-7 true false o w e q s c h = absurd (apart-codes 5 6 refl refl (λ z. omega
 gate-7 false v o w e q s c h = absurd (apart-codes 4 6 refl refl (λ z. omega arith) h)
 
 abbrev is_done : Mended → Bool
-is_done (Done c) = true
-is_done (Refused c) = false
+is_done (Ok c) = true
+is_done (Err c) = false
 
 abbrev code_in : Mended → Refusal
-code_in (Done c) = Rules
-code_in (Refused c) = c
+code_in (Ok c) = Rules
+code_in (Err c) = c
 
-gate-refused : (p v o : Bool) (a : ReaderAnswer) (x : Changes) (y z : List ℕ) (c : Refusal) → mend_gate p v x ≡ Refused c → (reader_gate p v o a ≡ refused (refusal_number c)) × (cond (both p v) y z ≡ z)
+gate-refused : (p v o : Bool) (a : ReaderAnswer) (x : Changes) (y z : List ℕ) (c : Refusal) → mend_gate p v x ≡ Err c → (reader_gate p v o a ≡ refused (refusal_number c)) × (cond (both p v) y z ≡ z)
 unfolding reader_gate mend_gate both
 gate-refused true true o a x y z c h = absurd (never_both true refl (ap is_done h))
 gate-refused true false o a x y z c h = (ap (λ r. refused (refusal_number r)) (ap code_in h), refl)
 gate-refused false v o a x y z c h = (ap (λ r. refused (refusal_number r)) (ap code_in h), refl)
 
-gate-done : (p v : Bool) (x c : Changes) → mend_gate p v x ≡ Done c → Yes p × Yes v
+gate-done : (p v : Bool) (x c : Changes) → mend_gate p v x ≡ Ok c → Yes p × Yes v
 unfolding mend_gate
 gate-done true true x c h = (refl, refl)
 gate-done true false x c h = absurd (never_both true refl (sym (ap is_done h)))
 gate-done false v x c h = absurd (never_both true refl (sym (ap is_done h)))
 
 abbrev changes_in : Changes → Mended → Changes
-changes_in d (Done c) = c
-changes_in d (Refused r) = d
+changes_in d (Ok c) = c
+changes_in d (Err r) = d
 
-gate-changes : (p v : Bool) (x c : Changes) → mend_gate p v x ≡ Done c → x ≡ c
+gate-changes : (p v : Bool) (x c : Changes) → mend_gate p v x ≡ Ok c → x ≡ c
 unfolding mend_gate
 gate-changes true true x c h = ap (changes_in x) h
 gate-changes true false x c h = absurd (never_both true refl (sym (ap is_done h)))
@@ -241,34 +240,34 @@ module _ (base : ℕ) (page : List ℕ) where
   four : Yes (edition_ok 4)
   four = edition-of 4 (lit≤ tt) (lit≤ tt)
 
-  refused-place : read_of 4 base page ≡ refused (minus 5) → mended_of base page ≡ Refused Place
+  refused-place : read_of 4 base page ≡ refused (minus 5) → mended_of base page ≡ Err Place
   unfolding read_of judge all_shown mended_of both
   refused-place h = gate-5 _ _ _ _ _ _ _ _ (rw four at h)
 
-  refused-version : read_of 4 base page ≡ refused (minus 6) → mended_of base page ≡ Refused Version
+  refused-version : read_of 4 base page ≡ refused (minus 6) → mended_of base page ≡ Err Version
   unfolding read_of judge all_shown mended_of both
   refused-version h = gate-6 _ _ _ _ _ _ _ _ (rw four at h)
 
-  damaged-by : read_of 4 base page ≡ refused (minus 7) → mended_of base page ≡ Done (mend_changes base page)
+  damaged-by : read_of 4 base page ≡ refused (minus 7) → mended_of base page ≡ Ok (mend_changes base page)
   unfolding read_of judge all_shown mended_of both
   damaged-by h = gate-7 _ _ _ _ _ _ _ _ (rw four at h)
 
-  refused-by : (c : Refusal) → mended_of base page ≡ Refused c →
+  refused-by : (c : Refusal) → mended_of base page ≡ Err c →
       (read_of 4 base page ≡ refused (refusal_number c)) × (mended_page base page ≡ page)
   unfolding read_of judge mended_of mended_page both
   refused-by c h = rw four (gate-refused _ _ _ _ _ _ _ c h)
 
-  done-by : (c : Changes) → mended_of base page ≡ Done c → Yes (place_ok base (length page)) × Yes (version_ok (version_at page))
+  done-by : (c : Changes) → mended_of base page ≡ Ok c → Yes (place_ok base (length page)) × Yes (version_ok (version_at page))
   unfolding mended_of
   done-by c h = gate-done _ _ _ c h
 
-  report-by : (c : Changes) → mended_of base page ≡ Done c →
+  report-by : (c : Changes) → mended_of base page ≡ Ok c →
       (c.padding ≡ changed base page 0) × (c.plat ≡ changed base page 1) × (c.dram ≡ changed base page 2) ×
       (c.console ≡ changed base page 3) × (c.ncoh ≡ changed base page 4) × (c.coh ≡ changed base page 5)
   unfolding mended_of mend_changes
   report-by c h = rw (← gate-changes _ _ (mend_changes base page) c h) (refl, refl, refl, refl, refl, refl)
 
-  blanks-by : (c : Changes) → mended_of base page ≡ Done c → (k : ℕ) → count_at k page ≡ 0 → pointer_at k page ≡ 0 → check_at k page ≡ 0 →
+  blanks-by : (c : Changes) → mended_of base page ≡ Ok c → (k : ℕ) → count_at k page ≡ 0 → pointer_at k page ≡ 0 → check_at k page ≡ 0 →
       changed base page (suc (suc k)) ≡ false
   unfolding keeps_at page_section_at no_section
   blanks-by c h k x y z =
@@ -276,10 +275,10 @@ module _ (base : ℕ) (page : List ℕ) where
       let n : page_section_at base page k ≡ no_section = rw (x, y, z) (ap (page_section 0 0 0) (array-none base page _ o)) in
       kept-stands base page 6 k (keeps-none (minor_at page) (edition_at page) base (plat_left_at base page) (page_section_at base page) k n)
 
-  page-done : (c : Changes) → mended_of base page ≡ Done c → mended_page base page ≡ page_to 6 base page
+  page-done : (c : Changes) → mended_of base page ≡ Ok c → mended_page base page ≡ page_to 6 base page
   page-done c h = let d = done-by c h in sym (mend-done base page d.0 d.1).1
 
-  accepts-by : (c : Changes) → mended_of base page ≡ Done c →
+  accepts-by : (c : Changes) → mended_of base page ≡ Ok c →
       read_of 4 base (mended_page base page) ≡ shows (minor_at page) (edition_at page)
       (plat_shown (cond (platform_ok (edition_at page) base (platform_at base page)) (platform_at base page) no_platform))
       (λ k. shown (minor_at page) (edition_at page) k (cond (keeps_at base page k) (page_section_at base page k) no_section))

@@ -1,6 +1,6 @@
 -- Mending a page (MD2). Request E12: "The mender goes over padding, platform pointer with its fields, DRAM, consoles, non-coherent,
 -- coherent, in this order." Rules and overlaps are the reader's own definitions. Assumes nothing.
-use Rattle.std.specs.Prelude.{ℕ, zero, suc, ◌+◌, ◌*◌, min, Bool, true, false, cond, not, List, [], ◌∷◌, length, leb, ltb, eqb, ℤ}
+use Rattle.std.specs.Prelude.{ℕ, zero, suc, ◌+◌, ◌*◌, min, Bool, true, false, cond, not, List, [], ◌∷◌, length, leb, ltb, eqb, ℤ, Result, Ok, Err}
 use Rattle.words.specs.Tests.{both, some}
 use Rattle.versions.specs.Version.{minor_of, version_ok}
 use Rattle.versions.specs.Edition.{section_count}
@@ -10,10 +10,9 @@ use Rattle.sections.specs.Page.{platform_at}
 use Rattle.sections.specs.Section.{platform_ok, section_ok, clear_before, plat_clear}
 use Rattle.reader.specs.Answer.{minus}
 use Rattle.reader.specs.Reading.{refusal_number}
+use Rattle.reader.specs.declared.Refusal.{Refusal}
 use Rattle.reader.specs.declared.Refusal.TheVariants.{Place, Version}
 use Rattle.mend.specs.declared.Changes.{Changes}
-use Rattle.mend.specs.declared.Mended.{Mended}
-use Rattle.mend.specs.declared.Mended.TheVariants.{Done, Refused}
 
 -- what zero bytes in the core mean: no platform pointer
 unfoldable pub no_platform : PagePlatform
@@ -97,11 +96,15 @@ mend_changes base page =
       coh = changed base page 5;
     }
 
+-- the answer: the changes of a mended page, or why it was refused
+abbrev pub Mended : Type 0
+Mended = Result Changes Refusal
+
 -- MD1: "Refusals: -5 and -6 as the reader gives them, page untouched."
 unfoldable pub mend_gate : Bool → Bool → Changes → Mended
-mend_gate true true c = Done c
-mend_gate true false c = Refused Version
-mend_gate false v c = Refused Place
+mend_gate true true c = Ok c
+mend_gate true false c = Err Version
+mend_gate false v c = Err Place
 
 -- the answer of the mender for a page at `base`
 unfoldable pub mended_of : ℕ → List ℕ → Mended
@@ -112,10 +115,10 @@ pub data MendAnswer : Type 0 where
   unmended : ℤ → MendAnswer
   mended : List Bool → MendAnswer
 
--- the enum `Mended` in these numbers
+-- an answer of `mend` in these numbers
 unfoldable pub mend_answer : Mended → MendAnswer
-mend_answer (Refused c) = unmended (refusal_number c)
-mend_answer (Done c) = mended (c.padding ∷ c.plat ∷ c.dram ∷ c.console ∷ c.ncoh ∷ c.coh ∷ [])
+mend_answer (Err c) = unmended (refusal_number c)
+mend_answer (Ok c) = mended (c.padding ∷ c.plat ∷ c.dram ∷ c.console ∷ c.ncoh ∷ c.coh ∷ [])
 
 -- the answer in these numbers, by the same checks as `mend_gate`
 unfoldable pub mend_numbers : Bool → Bool → List Bool → MendAnswer

@@ -1,14 +1,13 @@
 -- The mender's answer as numbers, for C (CE5). Assumes nothing.
-use Rattle.std.specs.Prelude.{ℕ, Bool, cond, List, [], ◌∷◌, replicate, ℤ, pos}
+use Rattle.std.specs.Prelude.{ℕ, Bool, cond, List, [], ◌∷◌, replicate, ℤ, pos, Ok, Err}
 use Rattle.reader.specs.Reading.{refusal_number}
+use Rattle.mend.specs.Mend.{Mended}
 use Rattle.mend.specs.declared.Changes.{Changes}
-use Rattle.mend.specs.declared.Mended.{Mended}
-use Rattle.mend.specs.declared.Mended.TheVariants.{Done, Refused}
 
 -- 0, or the reader's code
 unfoldable pub mended_number : Mended → ℤ
-mended_number (Done c) = pos 0
-mended_number (Refused c) = refusal_number c
+mended_number (Ok c) = pos 0
+mended_number (Err c) = refusal_number c
 
 -- "for each of the six whether it was changed" (MD4, CE5): 1 if it was
 unfoldable pub flag_word : Bool → ℕ
@@ -21,5 +20,5 @@ change_words c =
 
 -- the words of the six parts; all zero if the page is refused (MD1, CE3)
 unfoldable pub report_words : Mended → List ℕ
-report_words (Done c) = change_words c
-report_words (Refused c) = replicate 6 0
+report_words (Ok c) = change_words c
+report_words (Err c) = replicate 6 0

@@ -1,4 +1,5 @@
 -- Lines one after another, and the page of an input. Assumes nothing.
+use Rattle.std.proofs.Common.{Err}
 use Prim.Native.Nat.{ℕ, ◌+◌, ◌≤◌, ◌<◌}
 use mathlib.Core.Bool.{Bool, true, false}
 use mathlib.Core.Path.{◌≡◌, sym, ap, ◌∙◌}
@@ -14,10 +15,8 @@ use Rattle.words.specs.Word.{part, word_at, splice}
 use Rattle.words.proofs.Read.{num-part}
 use Rattle.words.proofs.Store.{splice-splice}
 use Rattle.reader.specs.declared.Refusal.TheVariants.{Place}
-use Rattle.mend.specs.Mend.{mended_of, mended_page}
+use Rattle.mend.specs.Mend.{Mended, mended_of, mended_page}
 use Rattle.mend.proofs.Theorems.{mends}
-use Rattle.mend.specs.declared.Mended.{Mended}
-use Rattle.mend.specs.declared.Mended.TheVariants.{Refused}
 use Rattle.mend_page.specs.Text.{said_text, line_text, mended_input, input_left}
 
 -- ---- text after text
@@ -64,7 +63,7 @@ module _ (room input : List ℕ) (n : ℕ) (l : length room ≡ 4105) (h : n ≤
       let c : length (take (length room) input) ≡ _ = length-take (length room) input in
       (λ z. omega arith, λ z. omega arith)
 
-  pub input-other : (n ≡ 4104 → ⊥) → (Refused Place ≡ mended_input input) × (length input ≡ 4104 → part 8 4096 room ≡ input_left input)
+  pub input-other : (n ≡ 4104 → ⊥) → (Err Place ≡ mended_input input) × (length input ≡ 4104 → part 8 4096 room ≡ input_left input)
   unfolding mended_input
   input-other z = (rw (ne_eqb (length input) 4104 (λ x. z (input-length.0 x))), λ x. absurd (z (input-length.0 x)))
 

@@ -1,12 +1,10 @@
 -- What the program (MD8) reports, as ASCII numbers, and what it mends for an input. Assumes nothing.
-use Rattle.std.specs.Prelude.{ℕ, Bool, cond, ◌≡◌, List, [], ◌∷◌, ◌++◌, length, take, eqb}
+use Rattle.std.specs.Prelude.{ℕ, Bool, cond, ◌≡◌, List, [], ◌∷◌, ◌++◌, length, take, eqb, Ok, Err}
 use Rattle.words.specs.Word.{part, word_at}
 use Rattle.reader.specs.declared.Refusal.{Refusal}
 use Rattle.reader.specs.declared.Refusal.TheVariants.{Place, Version, Rules}
-use Rattle.mend.specs.Mend.{mended_of, mended_page}
+use Rattle.mend.specs.Mend.{Mended, mended_of, mended_page}
 use Rattle.mend.specs.declared.Changes.{Changes}
-use Rattle.mend.specs.declared.Mended.{Mended}
-use Rattle.mend.specs.declared.Mended.TheVariants.{Done, Refused}
 
 -- ---- the titles of the six parts, with the listing's names for the sections: `padding`
 unfoldable pub padding_title : List ℕ
@@ -58,12 +56,12 @@ refusal_text Rules = 114 ∷ 101 ∷ 102 ∷ 117 ∷ 115 ∷ 101 ∷ 100 ∷ 32 
 
 -- the whole report
 unfoldable pub report_text : Mended → List ℕ
-report_text (Done c) = changes_text c
-report_text (Refused c) = refusal_text c
+report_text (Ok c) = changes_text c
+report_text (Err c) = refusal_text c
 
 -- ---- the answer for an input: 8 bytes of B, then the page; an input of another length is refused with -5, as in the listing
 unfoldable pub mended_input : List ℕ → Mended
-mended_input input = cond (eqb (length input) 4104) (mended_of (word_at 0 input) (part 8 4096 input)) (Refused Place)
+mended_input input = cond (eqb (length input) 4104) (mended_of (word_at 0 input) (part 8 4096 input)) (Err Place)
 
 -- the page of the input at exit: mended, or unchanged if the input is refused
 unfoldable pub input_left : List ℕ → List ℕ

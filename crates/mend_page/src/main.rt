@@ -7,7 +7,7 @@ ghost use Rattle.io.specs.Counts.{IsPrefixLen};
 ghost use Rattle.words.specs.Word.{splice};
 ghost use Rattle.mend_page.specs.Text.{line_text, changes_text, refusal_text, report_text, MendsInput};
 
-use mend::{Changes, Mended};
+use mend::Changes;
 use reader::Refusal;
 
 // The descriptor of standard input.
@@ -67,24 +67,24 @@ fn put_refused(out: &mut [u8], code: Refusal) -> usize
 }
 
 // Writes the report of an answer. Returns its length.
-fn put_report(out: &mut [u8], mended: Mended) -> usize
+fn put_report(out: &mut [u8], mended: Result<Changes, Refusal>) -> usize
     requires { length out.old ≡ 64 }
     ensures prefix_len { IsPrefixLen result out.new }
     ensures value { (result ≡ length (report_text mended)) × (out.new ≡ splice 0 (report_text mended) out.old) }
 {
     match mended {
-        Mended::Done(changes) => put_changes(out, changes),
-        Mended::Refused(code) => put_refused(out, code),
+        Ok(changes) => put_changes(out, changes),
+        Err(code) => put_refused(out, code),
     }
 }
 
 // Mends the page of an input whose first `n` bytes are in `room`. The room holds one byte more than a valid input, so that a longer input is noticed.
-fn mend_input(room: &mut [u8], n: usize) -> Mended
+fn mend_input(room: &mut [u8], n: usize) -> Result<Changes, Refusal>
     requires { IsPrefixLen n room.old × (length room.old ≡ 4105) }
     ensures { MendsInput room.old n result room.new }
 {
     if n != 4104 {
-        return Mended::Refused(Refusal::Place);
+        return Err(Refusal::Place);
     }
     let base = words::word_at(room, 0);
     mend::mend(&mut room[8..4104], base)
@@ -98,7 +98,7 @@ fn main() {
     let mut out = [0u8; 64];
     let written = put_report(&mut out, mended);
     io::write_all(STDERR, &out[..written]);
-    if mend::number(mended) == 0 {
+    if mended.is_ok() {
         io::write_all(STDOUT, &input[8..4104]);
     }
 }

@@ -1,5 +1,5 @@
 -- The packer's answer, return by return, and what the code may rely on for an accepted page. Assumes nothing.
-use Rattle.std.proofs.Common.{◌≡◌, ℕ, zero, suc, ◌+◌, ◌-◌, ◌*◌, ◌%◌, ◌<◌, ◌≤◌, true, leb, ◌⊎◌, List, [], length, sym, refl, ap, ◌∙◌, inl, inr, arith, ltb-true, eq-eqb, ne_eqb, eqb-true, le-leb, leb-true}
+use Rattle.std.proofs.Common.{◌≡◌, ℕ, zero, suc, ◌+◌, ◌-◌, ◌*◌, ◌%◌, ◌<◌, ◌≤◌, true, leb, ◌⊎◌, List, [], length, sym, refl, ap, ◌∙◌, inl, inr, arith, ltb-true, eq-eqb, ne_eqb, eqb-true, le-leb, leb-true, Ok, Err}
 use mathlib.Core.Path.{fun_ext}
 use native.Mathlib.Decide.{dec_lt}
 use Rattle.words.specs.Tests.{Yes}
@@ -28,10 +28,9 @@ use Rattle.writer_checks.specs.Description.{Description, used}
 use Rattle.writer_rules.specs.Write.{no-page, a-page, page_of}
 use Rattle.writer_rules.specs.Wrote.{page_after}
 use Rattle.pack.specs.Pack.{fields_kept, shown_description, Packed, stopped, written, pack_of, packed_by, target_after, packed_number}
-use Rattle.pack.specs.Pack.{packing_number}
+use Rattle.pack.specs.Pack.{Packing, packing_number}
 use Rattle.pack.specs.Steps.{array_words_in, Movable, fields_place, kept_from, shown_description_at}
-use Rattle.pack.specs.declared.Packing.{Packing}
-use Rattle.pack.specs.declared.Packing.TheVariants as packing
+use Rattle.pack.specs.declared.PackError.TheVariants as pack_error
 use Rattle.pack.proofs.Made.{told_by, told-late, told_none, told-some, told-fields, told-room, opened, pack-page}
 use Rattle.pack.proofs.Packed.{pack-stops, pack-late, pack-target}
 use Rattle.pack.proofs.Whole.{list-in, list-out}
@@ -190,16 +189,16 @@ pub packs-not : {F : Type 0} (r : Packing) (target : List ℕ) (m x : Packed) �
 packs-not r target m x h g e f = rw e (h, (g, f))
 
 pub packs-page : {F : Type 0} (before after p : List ℕ) (m : Packed) → m ≡ written (a-page p) → after ≡ p → F →
-    (packed_by after packing.Page ≡ m) × ((after ≡ target_after before m) × F)
+    (packed_by after (Ok tt) ≡ m) × ((after ≡ target_after before m) × F)
 unfolding packed_by target_after page_after
 packs-page before after p m e g f = rw e (ap (λ (x : List ℕ). written (a-page x)) g, (g, f))
 
 -- ---- the number of an answer is the number of its meaning
 number_by : (target : List ℕ) (r : Packing) → packing_number r ≡ packed_number (packed_by target r)
 unfolding packing_number packed_number packed_by
-number_by target packing.Page = refl
-number_by target (packing.Refused c) = refl
-number_by target packing.Target = refl
+number_by target (Ok u) = refl
+number_by target (Err (pack_error.Refused c)) = refl
+number_by target (Err pack_error.Target) = refl
 
 pub packed-number : (target : List ℕ) (r : Packing) (m : Packed) → packed_by target r ≡ m → packing_number r ≡ packed_number m
 packed-number target r m h = number_by target r ∙ ap packed_number h

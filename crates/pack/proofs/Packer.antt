@@ -1,10 +1,9 @@
 -- What request E11 requires of the packer, proved. Assumes nothing.
-use Rattle.std.proofs.Common.{◌≡◌, ℕ, ◌<◌, List, length, get_or, pos, sym}
+use Rattle.std.proofs.Common.{◌≡◌, ℕ, ◌<◌, List, length, get_or, pos, sym, Ok}
 use Rattle.words.specs.Word.{word_at}
 use Rattle.reader.specs.Answer.{read_of}
 use Rattle.writer_rules.specs.Write.{a-page}
 use Rattle.pack.specs.Pack.{written, pack_of, packed_by, target_after, packed_number}
-use Rattle.pack.specs.declared.Packing.TheVariants.{Page}
 use Rattle.pack.specs.Packer.{Packer, repacked}
 use Rattle.pack.proofs.Made.{pack-page}
 use Rattle.pack.proofs.Told.{packed_zero}
@@ -22,7 +21,7 @@ packer = record {
 }
 
 -- `same` and `again` for a call of `pack` that made a page. Their premises are the promises of `pack` about the answer and the lent page.
-pub packed-lent : (base n : ℕ) (page after : List ℕ) → packed_by after Page ≡ pack_of base n page → ((i : ℕ) → get_or page i 0 < 256) →
+pub packed-lent : (base n : ℕ) (page after : List ℕ) → packed_by after (Ok tt) ≡ pack_of base n page → ((i : ℕ) → get_or page i 0 < 256) →
     ((r : ℕ) → read_of r base after ≡ repacked (word_at 8 after) (read_of r base page)) × (pack_of base n after ≡ written (a-page after))
 unfolding packed_by
 packed-lent base n page after h b = (pack-same base n page after b (sym h), pack-again base n page after b (sym h))

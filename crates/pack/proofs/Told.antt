@@ -1,5 +1,5 @@
 -- The number of the packer's answer identifies the answer. Assumes nothing.
-use Rattle.std.proofs.Common.{◌≡◌, ℕ, suc, Bool, true, false, cond, leb, List, ℤ, pos, negsuc, sym, refl, ap, ◌∙◌, true≢false, arith}
+use Rattle.std.proofs.Common.{◌≡◌, ℕ, suc, Bool, true, false, cond, leb, List, ℤ, pos, negsuc, sym, refl, ap, ◌∙◌, true≢false, arith, Ok, Err}
 use Rattle.reader.specs.Answer.{Shown, PlatShown, shows, minus, all_shown, reader_gate, judge, read_of}
 use Rattle.reader.specs.Reading.{refusal_number}
 use Rattle.reader.specs.declared.Refusal.{Refusal}
@@ -7,15 +7,14 @@ use Rattle.reader.specs.declared.Refusal.TheVariants as refusal
 use Rattle.writer_checks.specs.Description.{Description}
 use Rattle.writer_rules.specs.Write.{a-page, writer_gate, write_of}
 use Rattle.writer_rules.specs.Wrote.{page_after}
-use Rattle.pack.specs.Pack.{shown_description, Packed, stopped, written, packed_from, pack_of, packed_by, target_after, packed_number}
-use Rattle.pack.specs.declared.Packing.{Packing}
-use Rattle.pack.specs.declared.Packing.TheVariants.{Page, Refused, Target}
+use Rattle.pack.specs.Pack.{Packing, shown_description, Packed, stopped, written, packed_from, pack_of, packed_by, target_after, packed_number}
+use Rattle.pack.specs.declared.PackError.TheVariants.{Refused, Target}
 
 -- 0 for a page, 1 for the target (W1), otherwise the reader's code, which is negative: so all numbers differ
 abbrev pub Tells : Packing → ℤ → Type 0
-Tells Page x = x ≡ pos 0
-Tells Target x = x ≡ pos 1
-Tells (Refused c) x = (x ≡ refusal_number c) × ((n : ℕ) → x ≡ pos n → ⊥)
+Tells (Ok u) x = x ≡ pos 0
+Tells (Err Target) x = x ≡ pos 1
+Tells (Err (Refused c)) x = (x ≡ refusal_number c) × ((n : ℕ) → x ≡ pos n → ⊥)
 
 abbrev is_pos : ℤ → Bool
 is_pos (pos n) = true
@@ -28,9 +27,9 @@ negative refusal.Rules n h = true≢false (sym (ap is_pos h))
 
 tells : (target : List ℕ) (r : Packing) → Tells r (packed_number (packed_by target r))
 unfolding packed_number packed_by
-tells target Page = refl
-tells target Target = refl
-tells target (Refused c) = (refl, negative c)
+tells target (Ok u) = refl
+tells target (Err Target) = refl
+tells target (Err (Refused c)) = (refl, negative c)
 
 -- for every call: `packed_by target r ≡ pack_of ..` is the promise of `pack` about its answer r
 pub packed-told : (base n : ℕ) (page target : List ℕ) (r : Packing) → packed_by target r ≡ pack_of base n page →

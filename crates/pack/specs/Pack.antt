@@ -1,6 +1,6 @@
 -- Packing a page (PK1). Request E11: "The new page is exactly what the writer makes, at the page's own minor, from what reader edition 4
 -- shows, with fields kept in page order and withdrawn ones dropped." Assumes nothing.
-use Rattle.std.specs.Prelude.{ℕ, cond, List, [], ◌∷◌, ◌++◌, ℤ, pos, nat_le}
+use Rattle.std.specs.Prelude.{ℕ, cond, List, [], ◌∷◌, ◌++◌, ℤ, pos, nat_le, Result, Ok, Err}
 use Rattle.fields.specs.Fields.{FieldShown, raw, withdrawn}
 use Rattle.fields.specs.Facts.{field_bytes}
 use Rattle.reader.specs.Answer.{Shown, absent, empty, full, PlatShown, ReaderAnswer, refused, shows, minus, read_of}
@@ -8,8 +8,8 @@ use Rattle.reader.specs.Reading.{refusal_number}
 use Rattle.writer_checks.specs.Description.{Description}
 use Rattle.writer_rules.specs.Write.{Made, no-page, a-page, write_of}
 use Rattle.writer_rules.specs.Wrote.{page_after}
-use Rattle.pack.specs.declared.Packing.{Packing}
-use Rattle.pack.specs.declared.Packing.TheVariants.{Page, Refused, Target}
+use Rattle.pack.specs.declared.PackError.{PackError}
+use Rattle.pack.specs.declared.PackError.TheVariants.{Refused, Target}
 
 -- the words of the entries that a section shows
 unfoldable pub entries_in : Shown → List ℕ
@@ -42,11 +42,14 @@ packed_from base n (shows w e q s) = cond (nat_le w 4) (written (write_of base n
 unfoldable pub pack_of : ℕ → ℕ → List ℕ → Packed
 pack_of base n page = packed_from base n (read_of 4 base page)
 
--- ---- the enum `Packing` and the target at exit, as a result of packing
+-- ---- the result of `pack` and the target at exit, as a result of packing
+abbrev pub Packing : Type 0
+Packing = Result (Unit {0}) PackError
+
 unfoldable pub packed_by : List ℕ → Packing → Packed
-packed_by target Page = written (a-page target)
-packed_by target (Refused c) = stopped (refusal_number c)
-packed_by target Target = written (no-page 1)
+packed_by target (Ok u) = written (a-page target)
+packed_by target (Err (Refused c)) = stopped (refusal_number c)
+packed_by target (Err Target) = written (no-page 1)
 
 -- "The target is untouched." (PK2), or the page that was made
 unfoldable pub target_after : List ℕ → Packed → List ℕ
@@ -59,8 +62,8 @@ packed_number (stopped c) = c
 packed_number (written (no-page n)) = pos n
 packed_number (written (a-page p)) = pos 0
 
--- the same for the enum `Packing`
+-- the same for the result of `pack`
 unfoldable pub packing_number : Packing → ℤ
-packing_number Page = pos 0
-packing_number (Refused c) = refusal_number c
-packing_number Target = pos 1
+packing_number (Ok u) = pos 0
+packing_number (Err (Refused c)) = refusal_number c
+packing_number (Err Target) = pos 1

@@ -12,28 +12,36 @@ ghost use Rattle.sections.specs.Steps.{Copied};
 ghost use Rattle.writer_checks.specs.Description.{used};
 ghost use Rattle.writer_rules.specs.Write.{descriptor, page_of};
 ghost use Rattle.pack.specs.Pack.{pack_of, packed_by, target_after, packing_number};
+ghost use Rattle.pack.specs.declared.PackError.TheVariants.{Refused};
 ghost use Rattle.pack.specs.Steps.{array_words_in, Movable, section_moved, fields_place, kept_from, shown_description_at};
 
 use fields::FieldPlace;
 use reader::Refusal;
 use versions::Edition;
 
-// `Page` if a page was made, otherwise why not: the reader's refusal of the page, or `Target` if the target is not 4,096 bytes long (W1).
+// Why no page was made: the reader's refusal of the page, or `Target` if the target is not 4,096 bytes long (W1).
 #[derive(Clone, Copy)]
-pub enum Packing {
-    Page,
+pub enum PackError {
     Refused(Refusal),
     Target,
 }
 
+impl From<Refusal> for PackError {
+    ghost from_gives = { λ code error. error ≡ Refused code };
+
+    fn from(code: Refusal) -> PackError {
+        PackError::Refused(code)
+    }
+}
+
 // The number of an answer: 0 for a page, the reader's code, or 1 for the target.
-pub fn number(packing: Packing) -> i32
+pub fn number(packing: Result<(), PackError>) -> i32
     ensures { result ≡ packing_number packing }
 {
     match packing {
-        Packing::Page => 0,
-        Packing::Refused(code) => i32::from(code),
-        Packing::Target => 1,
+        Ok(()) => 0,
+        Err(PackError::Refused(code)) => i32::from(code),
+        Err(PackError::Target) => 1,
     }
 }
 
@@ -188,23 +196,23 @@ fn put_page(page: &[u8], core: &[u8], base: u64, e: Edition, target: &mut [u8])
 
 // Packs the page at `base` into a target for the same base: what a reader of edition 4 shows, at the page's own minor, without holes and without
 // withdrawn fields. The target stays unchanged if the reader refuses the page, if its minor is 5 or above, or if the target is not 4,096 bytes long.
-pub fn pack(page: &[u8], base: u64, target: &mut [u8]) -> Packing
+pub fn pack(page: &[u8], base: u64, target: &mut [u8]) -> Result<(), PackError>
     ensures result_after { packed_by target.new result ≡ pack_of base (length target.old) page.now }
     ensures target_after { target.new ≡ target_after target.old (pack_of base (length target.old) page.now) }
     ensures by_index { (i : ℕ) → slice_index page.now i < 256 }
 {
     let mut core = [0u8; 112];
     match reader::judge(page, base, 4, &mut core) {
-        Err(code) => Packing::Refused(code),
+        Err(code) => Err(PackError::from(code)),
         Ok(minor) => {
             if 4 < minor {
-                return Packing::Refused(Refusal::Version);
+                return Err(PackError::Refused(Refusal::Version));
             }
             if target.len() != words::PAGE_LEN {
-                return Packing::Target;
+                return Err(PackError::Target);
             }
             put_page(page, &core, base, Edition { minor }, target);
-            Packing::Page
+            Ok(())
         }
     }
 }

@@ -6,7 +6,7 @@ ghost use Rattle.io.specs.Counts.{IsPrefixLen};
 ghost use Rattle.reader.specs.Reading.{refusal_number};
 ghost use Rattle.pack_page.specs.Prints.{refused_line, pack_printed, PacksAll};
 
-use pack::Packing;
+use pack::PackError;
 use reader::Refusal;
 
 // The descriptor of standard input.
@@ -45,9 +45,9 @@ fn pack_input(input: &[u8], out: &mut [u8]) -> usize
         return put_code(out, Refusal::Place);
     }
     match pack::pack(&input[8..], words::word_at(input, 0), out) {
-        Packing::Page => out.len(),
-        Packing::Refused(code) => put_code(out, code),
-        Packing::Target => 0,
+        Ok(()) => out.len(),
+        Err(PackError::Refused(code)) => put_code(out, code),
+        Err(PackError::Target) => 0,
     }
 }
 

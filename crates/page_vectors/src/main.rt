@@ -3,8 +3,7 @@
 // (`vector_io::mark`) of the page afterwards, for a packed page also the mark after it is packed again, and the listing of the result.
 #![tactic(auto)]
 
-use mend::Mended;
-use pack::Packing;
+use pack::PackError;
 use reader::Refusal;
 use vector_io::STDOUT;
 
@@ -37,9 +36,9 @@ fn print_listing(page: &[u8], base: u64) {
 // Prints for each of the six parts whether it was changed.
 fn print_report(changed: [u64; 6]) {
     io::write_all(STDOUT, b"mended");
-    for i in 0..6usize {
+    for word in &changed {
         io::write_all(STDOUT, b" ");
-        io::print_decimal(STDOUT, changed[i]);
+        io::print_decimal(STDOUT, *word);
     }
     io::write_all(STDOUT, b"\n");
 }
@@ -47,12 +46,12 @@ fn print_report(changed: [u64; 6]) {
 fn print_mended(page: &mut [u8], base: u64) {
     let mended = mend::mend(page, base);
     match mended {
-        Mended::Done(_) => {
+        Ok(_) => {
             print_report(mend::report_words(mended));
             print_mark(b"page", page);
             print_listing(page, base);
         }
-        Mended::Refused(code) => {
+        Err(code) => {
             print_refused(code);
             print_mark(b"page", page);
         }
@@ -68,17 +67,17 @@ fn print_again(page: &[u8], base: u64) {
 
 fn print_packed(page: &[u8], base: u64, target: &mut [u8]) {
     match pack::pack(page, base, target) {
-        Packing::Page => {
+        Ok(()) => {
             io::write_all(STDOUT, b"packed\n");
             print_mark(b"target", target);
             print_again(target, base);
             print_listing(target, base);
         }
-        Packing::Refused(code) => {
+        Err(PackError::Refused(code)) => {
             print_refused(code);
             print_mark(b"target", target);
         }
-        Packing::Target => {
+        Err(PackError::Target) => {
             io::write_all(STDOUT, b"refused W1\n");
             print_mark(b"target", target);
         }

@@ -12,8 +12,8 @@ ghost use Rattle.writer_rules.specs.Wrote.{write_lists, made_by, page_after};
 ghost use Rattle.writer.specs.Steps.{section_on, arrays_on};
 
 use versions::Edition;
-use writer_checks::{Sums, Totals};
-pub use writer_rules::Wrote;
+use writer_checks::Totals;
+pub use writer_rules::WriteError;
 
 // Returns count, pointer and checksum of section `k` with its list at `pointer`; `total` is the sum of its words. Zeros for an empty list.
 fn section_words(k: usize, pointer: u64, words: &[u64], total: u64) -> [u64; 3]
@@ -169,7 +169,7 @@ pub fn write(
     coh: &[u64],
     fields: &[u8],
     page: &mut [u8],
-) -> Wrote
+) -> Result<(), WriteError>
     ensures result_after { made_by page.new result
         ≡ write_lists base edition dram.now console.now ncoh.now coh.now fields.now page.old }
     ensures page_after { page.new ≡ page_after page.old
@@ -177,24 +177,23 @@ pub fn write(
     ensures yes { Yes (description_fits (description_of dram.now console.now ncoh.now coh.now fields.now)) }
 {
     if !sections::place_ok(base, page.len()) {
-        return Wrote::Place;
+        return Err(WriteError::Place);
     }
     if !versions::is_edition(edition) {
-        return Wrote::Edition;
+        return Err(WriteError::Edition);
     }
-    let Sums::Sound(totals) = writer_checks::sum_lists(edition, dram, console, ncoh, coh) else {
-        return Wrote::BadEntry;
-    };
+    let sums = writer_checks::sum_lists(edition, dram, console, ncoh, coh);
+    let totals = sums.ok_or(WriteError::BadEntry)?;
     if !writer_checks::fields_ok(fields) {
-        return Wrote::BadEntry;
+        return Err(WriteError::BadEntry);
     }
     let e = Edition { minor: edition };
     if !writer_checks::later_sections_empty(e, dram, console, ncoh, coh) {
-        return Wrote::SectionAfterEdition;
+        return Err(WriteError::SectionAfterEdition);
     }
     if !writer_checks::room_ok(e, dram, console, ncoh, coh, fields) {
-        return Wrote::TooLong;
+        return Err(WriteError::TooLong);
     }
     put_page(base, e, totals, dram, console, ncoh, coh, fields, page);
-    Wrote::Page
+    Ok(())
 }

@@ -1,5 +1,6 @@
 -- Laws of the checks of four lists. Assumes nothing.
-use Rattle.std.proofs.Common.{◌≡◌, ℕ, zero, suc, ◌+◌, ◌-◌, ◌*◌, ◌/◌, ◌%◌, ◌^◌, ◌<◌, ◌≤◌, Bool, true, false, cond, eqb, ltb, leb, List, [], ◌∷◌, length, get_or, take, sym, refl, ap, ◌∙◌, add-zero, add-one, arith, length-append, take-suc, le-ltb, lt-ltb, eq-eqb, ne_eqb, le-leb, leb-true}
+use Rattle.std.proofs.Common.{◌≡◌, ℕ, zero, suc, ◌+◌, ◌-◌, ◌*◌, ◌/◌, ◌%◌, ◌^◌, ◌<◌, ◌≤◌, Bool, true, false, cond, eqb, ltb, leb, List, [], ◌∷◌, length, get_or, take, sym, refl, ap, ◌∙◌, add-zero, add-one, arith, length-append, take-suc, le-ltb, lt-ltb, eq-eqb, ne_eqb, le-leb, leb-true, true≢false, Option, Some, None}
+use Rattle.std.specs.Bool.{then_some}
 use native.Mathlib.Nat.{div-add-mod}
 use lib.Seq.{take-length}
 use borrow.Author.Tests.{lt-leb}
@@ -13,8 +14,6 @@ use Rattle.entries.proofs.Entries.{per-other, sum-snoc}
 use Rattle.fields.specs.Fields.{end_mark}
 use Rattle.writer_checks.specs.Description.{four_lists, description_of, list_ok, lists_ok, later_sections_empty, with_mark, plat_bytes, used}
 use Rattle.writer_checks.specs.declared.Totals.{Totals}
-use Rattle.writer_checks.specs.declared.Sums.{Sums}
-use Rattle.writer_checks.specs.declared.Sums.TheVariants.{Unsound, Sound}
 use Rattle.writer_checks.specs.Fast.{sums_of, totals_of, sums_number}
 use Rattle.writer_checks.specs.Steps.{sum_to, late_to}
 
@@ -62,6 +61,23 @@ sum-bank ws i at acc t r h o e u v =
     let two : r ≡ sum (take (at + 1 + 1) ws) % 2 ^ 64 = sum_more ws (at + 1) t r (omega arith) (sum_more ws at acc t (omega arith) a u) v in
     two ∙ ap (λ n. sum (take n ws) % 2 ^ 64) (let z : at + 1 + 1 ≡ 2 * (i + 1) = omega arith in z)
 
+-- a value under a test
+abbrev value_in : Option ℕ → ℕ
+value_in None = 0
+value_in (Some x) = x
+
+abbrev has_value : Option ℕ → Bool
+has_value None = false
+has_value (Some x) = true
+
+some-is : (b : Bool) (x s : ℕ) → then_some b x ≡ Some s → (b ≡ true) × (s ≡ x)
+some-is true x s h = (refl, sym (ap value_in h))
+some-is false x s h = absurd (true≢false (sym (ap has_value h)))
+
+none-is : (b : Bool) (x : ℕ) → then_some b x ≡ None → b ≡ false
+none-is true x h = absurd (true≢false (ap has_value h))
+none-is false x h = refl
+
 -- the number of whole entries that the length gives
 pub whole_room : (k n : ℕ) → words_per_entry k * (n / words_per_entry k) ≤ n
 whole_room k n = omega (arith, div-add-mod n (words_per_entry k))
@@ -75,6 +91,14 @@ module _ (w k : ℕ) (ws : List ℕ) where
   unfolding list_ok both
   list-whole h = rw (eq-eqb (length ws % words_per_entry k) 0 h)
 
+-- what the code's sum of one list says about the list
+pub some-list : (w k : ℕ) (ws : List ℕ) (s : ℕ) {r : Option ℕ} → r ≡ then_some (list_ok w k ws) (sum ws % 2 ^ 64) → r ≡ Some s →
+    (list_ok w k ws ≡ true) × (s ≡ sum ws % 2 ^ 64)
+some-list w k ws s e h = some-is (list_ok w k ws) (sum ws % 2 ^ 64) s (sym e ∙ h)
+
+pub none-list : (w k : ℕ) (ws : List ℕ) {r : Option ℕ} → r ≡ then_some (list_ok w k ws) (sum ws % 2 ^ 64) → r ≡ None → list_ok w k ws ≡ false
+none-list w k ws e h = none-is (list_ok w k ws) (sum ws % 2 ^ 64) (sym e ∙ h)
+
 -- ---- all four
 described-four : (w : ℕ) (a b c d : List ℕ) → lists_ok w (four_lists a b c d) ≡ both
     (both (both (list_ok w 0 a) (list_ok w 1 b)) (list_ok w 2 c)) (list_ok w 3 d)
@@ -82,22 +106,22 @@ unfolding lists_ok every both four_lists
 described-four w a b c d = refl
 
 -- the totals, if the lists are sound
-abbrev totals_in : Sums → Totals
-totals_in Unsound = record { dram = 0; console = 0; ncoh = 0; coh = 0 }
-totals_in (Sound t) = t
+abbrev totals_in : Option Totals → Totals
+totals_in None = record { dram = 0; console = 0; ncoh = 0; coh = 0 }
+totals_in (Some t) = t
 
-abbrev is_sound : Sums → Bool
-is_sound Unsound = false
-is_sound (Sound t) = true
+abbrev is_sound : Option Totals → Bool
+is_sound None = false
+is_sound (Some t) = true
 
 module _ (w : ℕ) (a b c d : List ℕ) where
-  pub sums-not : both (both (both (list_ok w 0 a) (list_ok w 1 b)) (list_ok w 2 c)) (list_ok w 3 d) ≡ false → Unsound ≡ sums_of w a b c d
+  pub sums-not : both (both (both (list_ok w 0 a) (list_ok w 1 b)) (list_ok w 2 c)) (list_ok w 3 d) ≡ false → None ≡ sums_of w a b c d
   unfolding sums_of
   sums-not e = rw (described-four w a b c d, e)
 
   pub sums-are : (p q r s : ℕ) → both (both (both (list_ok w 0 a) (list_ok w 1 b)) (list_ok w 2 c)) (list_ok w 3 d) ≡ true →
       p ≡ sum a % 2 ^ 64 → q ≡ sum b % 2 ^ 64 → r ≡ sum c % 2 ^ 64 → s ≡ sum d % 2 ^ 64 →
-      Sound (record { dram = p; console = q; ncoh = r; coh = s }) ≡ sums_of w a b c d
+      Some (record { dram = p; console = q; ncoh = r; coh = s }) ≡ sums_of w a b c d
   unfolding sums_of totals_of
   sums-are p q r s e f g h i = rw (described-four w a b c d, e, f, g, h, i)
 
@@ -105,7 +129,7 @@ module _ (w : ℕ) (a b c d : List ℕ) where
   unfolding sums_of
   sums-sound = go (lists_ok w (four_lists a b c d))
     where
-      go : (t : Bool) → is_sound (cond t (Sound (totals_of a b c d)) Unsound) ≡ t
+      go : (t : Bool) → is_sound (cond t (Some (totals_of a b c d)) None) ≡ t
       go true = refl
       go false = refl
 
@@ -113,24 +137,24 @@ module _ (w : ℕ) (a b c d : List ℕ) where
   unfolding sums_of sums_number
   sums-number = go (lists_ok w (four_lists a b c d))
     where
-      go : (t : Bool) → sums_number (cond t (Sound (totals_of a b c d)) Unsound) ≡ cond t 0 3
+      go : (t : Bool) → sums_number (cond t (Some (totals_of a b c d)) None) ≡ cond t 0 3
       go true = refl
       go false = refl
 
   -- an answer, and its number
-  pub sums-told : {r : Sums} → r ≡ sums_of w a b c d → (r ≡ sums_of w a b c d) × (sums_number r ≡ cond (lists_ok w (four_lists a b c d)) 0 3)
+  pub sums-told : {r : Option Totals} → r ≡ sums_of w a b c d → (r ≡ sums_of w a b c d) × (sums_number r ≡ cond (lists_ok w (four_lists a b c d)) 0 3)
   sums-told h = (h, ap sums_number h ∙ sums-number)
 
   -- what follows from the answer
-  pub unsound-lists : sums_of w a b c d ≡ Unsound → lists_ok w (four_lists a b c d) ≡ false
+  pub unsound-lists : sums_of w a b c d ≡ None → lists_ok w (four_lists a b c d) ≡ false
   unsound-lists e = sym sums-sound ∙ ap is_sound e
 
-  pub sound-lists : (t : Totals) → sums_of w a b c d ≡ Sound t → lists_ok w (four_lists a b c d) ≡ true
+  pub sound-lists : (t : Totals) → sums_of w a b c d ≡ Some t → lists_ok w (four_lists a b c d) ≡ true
   sound-lists t e = sym sums-sound ∙ ap is_sound e
 
-  pub sound-totals : (t : Totals) → sums_of w a b c d ≡ Sound t → t ≡ totals_of a b c d
+  pub sound-totals : (t : Totals) → sums_of w a b c d ≡ Some t → t ≡ totals_of a b c d
   unfolding sums_of
-  sound-totals t e = let s : Sound (totals_of a b c d) ≡ Sound t = rw (sound-lists t e) at e in sym (ap totals_in s)
+  sound-totals t e = let s : Some (totals_of a b c d) ≡ Some t = rw (sound-lists t e) at e in sym (ap totals_in s)
 
 -- ---- the four lengths
 abbrev pub lens : List ℕ → List ℕ → List ℕ → List ℕ → List ℕ

@@ -1,7 +1,8 @@
 // The writer's checks of a description, W3 to W5: whole entries and valid fields, no entry of a section after the edition, and enough room.
 #![tactic(auto)]
 
-ghost use Rattle.std.specs.Prelude.{◌≡◌, ◌*◌, ◌%◌, ◌^◌, ◌≤◌, true, length, take, if◌then◌else◌, ◌≢◌, nat_le};
+ghost use Rattle.std.specs.Prelude.{◌≡◌, ◌*◌, ◌%◌, ◌^◌, ◌≤◌, length, take, if◌then◌else◌, ◌≢◌, nat_le};
+ghost use Rattle.std.specs.Bool.{then_some};
 ghost use Rattle.entries.specs.Entry.{entries_ok, sum};
 ghost use Rattle.fields.specs.Fields.{scan_of, describable};
 ghost use Rattle.writer_checks.specs.Description.{four_lists, description_of, list_ok, lists_ok, later_sections_empty, with_mark, used};
@@ -20,24 +21,10 @@ pub struct Totals {
     pub coh: u64,
 }
 
-// The totals, or `Unsound` if a list is not a whole number of entries or an entry breaks its rule.
-#[derive(Clone, Copy)]
-pub enum Sums {
-    Unsound,
-    Sound(Totals),
-}
-
-// The sum of a list's words modulo 2^64, and whether every entry keeps its rule.
-#[derive(Clone, Copy)]
-struct ListCheck {
-    sum: u64,
-    ok: bool,
-}
-
-// Sums and checks the first `count` banks or regions of `words` in one loop. `k` is their section, not 1.
-fn sum_banks(words: &[u64], minor: u64, k: usize, count: usize) -> ListCheck
+// Sums and checks the first `count` banks or regions of `words` in one loop: their sum if each keeps its rule. `k` is their section, not 1.
+fn sum_banks(words: &[u64], minor: u64, k: usize, count: usize) -> Option<u64>
     requires { (k ≢ 1) × (2 * count ≤ length words.now) }
-    ensures { (result.sum ≡ sum (take (2 * count) words.now) % 2 ^ 64) × (result.ok ≡ entries_ok minor k count words.now) }
+    ensures { result ≡ then_some (entries_ok minor k count words.now) (sum (take (2 * count) words.now) % 2 ^ 64) }
 {
     let mut bits = Bits::none();
     let mut sum: u64 = 0;
@@ -50,8 +37,7 @@ fn sum_banks(words: &[u64], minor: u64, k: usize, count: usize) -> ListCheck
         bits = entries::with_bank(bits, base, size);
         at += 2;
     }
-    let ok = entries::banks_clear(bits);
-    ListCheck { sum, ok }
+    entries::banks_clear(bits).then_some(sum)
 }
 
 // The sum of all words, modulo 2^64.
@@ -59,8 +45,8 @@ fn sum_of(words: &[u64]) -> u64
     ensures { result ≡ sum words.now % 2 ^ 64 }
 {
     let mut total: u64 = 0;
-    for i in 0..words.len() {
-        total = std::num::wrapping_add_u64(total, words[i]);
+    for word in words {
+        total = std::num::wrapping_add_u64(total, *word);
     }
     total
 }
@@ -79,49 +65,39 @@ fn consoles_ok(words: &[u64], minor: u64, count: usize) -> bool
     entries::consoles_clear(bits, minor)
 }
 
-// Whether `words` is a whole number of entries of section `k`, each within its rule. If so, `sum` is the sum of the words.
-fn sum_list(words: &[u64], minor: u64, k: usize) -> ListCheck
-    ensures { (result.ok ≡ list_ok minor k words.now) × (result.ok ≡ true → result.sum ≡ sum words.now % 2 ^ 64) }
+// The sum of the words, modulo 2^64, if `words` is a whole number of entries of section `k`, each within its rule.
+fn sum_list(words: &[u64], minor: u64, k: usize) -> Option<u64>
+    ensures { result ≡ then_some (list_ok minor k words.now) (sum words.now % 2 ^ 64) }
 {
     let step = entries::entry_words(k);
     if words.len() % step != 0 {
-        return ListCheck { sum: 0, ok: false };
+        return None;
     }
     let count = words.len() / step;
     if k == 1 {
         let sum = sum_of(words);
-        let ok = consoles_ok(words, minor, count);
-        return ListCheck { sum, ok };
+        return consoles_ok(words, minor, count).then_some(sum);
     }
     sum_banks(words, minor, k, count)
 }
 
-// W3: checks and sums all four lists, including those of sections after the edition.
-pub fn sum_lists(minor: u64, dram: &[u64], console: &[u64], ncoh: &[u64], coh: &[u64]) -> Sums
+// W3: checks and sums all four lists, including those of sections after the edition. `None` if a list is not a whole number of entries or an entry
+// breaks its rule.
+pub fn sum_lists(
+    minor: u64,
+    dram: &[u64],
+    console: &[u64],
+    ncoh: &[u64],
+    coh: &[u64],
+) -> Option<Totals>
     ensures value { result ≡ sums_of minor dram.now console.now ncoh.now coh.now }
     ensures result_value { sums_number result ≡ (if lists_ok minor (four_lists dram.now console.now ncoh.now coh.now) then 0 else 3) }
 {
-    let first = sum_list(dram, minor, 0);
-    if !first.ok {
-        return Sums::Unsound;
-    }
-    let second = sum_list(console, minor, 1);
-    if !second.ok {
-        return Sums::Unsound;
-    }
-    let third = sum_list(ncoh, minor, 2);
-    if !third.ok {
-        return Sums::Unsound;
-    }
-    let fourth = sum_list(coh, minor, 3);
-    if !fourth.ok {
-        return Sums::Unsound;
-    }
-    Sums::Sound(Totals {
-        dram: first.sum,
-        console: second.sum,
-        ncoh: third.sum,
-        coh: fourth.sum,
+    Some(Totals {
+        dram: sum_list(dram, minor, 0)?,
+        console: sum_list(console, minor, 1)?,
+        ncoh: sum_list(ncoh, minor, 2)?,
+        coh: sum_list(coh, minor, 3)?,
     })
 }
 
@@ -163,11 +139,11 @@ fn fits(room: usize, n: [usize; 4]) -> bool
     ensures { result ≡ nat_le (sum_to 4 n) room }
 {
     let mut left = room;
-    for k in 0..4 {
-        if left < n[k] {
+    for len in &n {
+        if left < *len {
             return false;
         }
-        left -= n[k];
+        left -= *len;
     }
     true
 }

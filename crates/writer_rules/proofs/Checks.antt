@@ -1,4 +1,5 @@
 -- The writer's answer, return by return. Assumes nothing.
+use Rattle.std.proofs.Common.{Ok}
 use mir.Val.{Fits}
 use mir.Syntax.{w64}
 use Prim.Native.Nat.{ℕ}
@@ -15,9 +16,7 @@ use Rattle.sections.specs.Page.{place_ok}
 use Rattle.fields.specs.Fields.{scan_of, describable}
 use Rattle.writer_checks.specs.Description.{Description, four_lists, description_of, lists_ok, description_ok, later_sections_empty, used}
 use Rattle.writer_rules.specs.Write.{page_of, Made, no-page, a-page, writer_gate, write_of, description_fits}
-use Rattle.writer_rules.specs.Wrote.{made_by, page_after}
-use Rattle.writer_rules.specs.declared.Wrote.{Wrote}
-use Rattle.writer_rules.specs.declared.Wrote.TheVariants.{Page}
+use Rattle.writer_rules.specs.Wrote.{Wrote, made_by, page_after}
 
 module _ (base n v : ℕ) (d : Description) where
   pub w-place : place_ok base n ≡ false → write_of base n v d ≡ no-page 1
@@ -73,6 +72,6 @@ unfolding page_after
 wrote-not r n page m h e f = rw e (h, (refl, f))
 
 pub wrote-page : {F : Type 0} (before after p : List ℕ) (m : Made) → m ≡ a-page p → after ≡ p → F →
-    (made_by after Page ≡ m) × ((after ≡ page_after before m) × F)
+    (made_by after (Ok tt) ≡ m) × ((after ≡ page_after before m) × F)
 unfolding page_after made_by
 wrote-page before after p m e g f = rw e (ap a-page g, (g, f))

@@ -1,4 +1,5 @@
 -- Demand 3, proved. Assumes nothing.
+use Rattle.std.proofs.Common.{Ok}
 use Prim.Native.Nat.{ℕ, ◌+◌, min}
 use mathlib.Core.Path.{◌≡◌, refl, sym, ap, ◌∙◌}
 use mathlib.Core.Bool.{Bool, true, false, cond}
@@ -17,7 +18,6 @@ use Rattle.reader.proofs.Named.{unnamed}
 use Rattle.writer_checks.specs.Description.{Description, description_of}
 use Rattle.writer_rules.specs.Write.{a-page, write_of, description_fits, described, plat_described}
 use Rattle.writer_rules.specs.Wrote.{write_lists, made_by}
-use Rattle.writer_rules.specs.declared.Wrote.TheVariants.{Page}
 use Rattle.writer_rules.specs.Demand.{Demand3}
 use Rattle.writer_rules.specs.Unrefused.{NoneWithdrawn}
 use Rattle.writer_rules.proofs.Round.{round}
@@ -52,7 +52,7 @@ demand3 = record {
 
 -- The third statement for a call of `write` that made a page. Its premises are the promises of `write` about the answer and the lent lists.
 pub written-lent : (base v : ℕ) (dram console ncoh coh fields before after : List ℕ) →
-    made_by after Page ≡ write_lists base v dram console ncoh coh fields before →
+    made_by after (Ok tt) ≡ write_lists base v dram console ncoh coh fields before →
     Yes (description_fits (description_of dram console ncoh coh fields)) →
     (r : ℕ) → Yes (edition_ok r) →
     read_of r base after ≡ shows v (min r v) (plat_described base v (description_of dram console ncoh coh fields))

@@ -8,7 +8,7 @@ ghost use Rattle.std.specs.Prelude.{◌≤◌, length};
 
 use vector_io::STDOUT;
 use words::Span;
-use writer::Wrote;
+use writer::WriteError;
 
 // The words of a case.
 fn load(input: &[u8]) -> [u64; 4096] {
@@ -24,14 +24,14 @@ fn filled(byte: u8) -> [u8; 8192] {
 }
 
 // The number of a refusal, 0 if the page was written.
-fn number(answer: Wrote) -> u64 {
+fn number(answer: Result<(), WriteError>) -> u64 {
     match answer {
-        Wrote::Page => 0,
-        Wrote::Place => 1,
-        Wrote::Edition => 2,
-        Wrote::BadEntry => 3,
-        Wrote::SectionAfterEdition => 4,
-        Wrote::TooLong => 5,
+        Ok(()) => 0,
+        Err(WriteError::Place) => 1,
+        Err(WriteError::Edition) => 2,
+        Err(WriteError::BadEntry) => 3,
+        Err(WriteError::SectionAfterEdition) => 4,
+        Err(WriteError::TooLong) => 5,
     }
 }
 

@@ -1,6 +1,5 @@
-use Rattle.std.proofs.Common.{sym, refl, ◌∙◌, arith, rules}
+use Rattle.std.proofs.Common.{sym, refl, ◌∙◌, arith, rules, Ok}
 use Rattle.faults.specs.Faults.{clash}
-use Rattle.faults.specs.declared.Diagnosis.TheVariants.{Clear}
 use Rattle.faults.proofs.Order.{first-none, told_more, told_at, told-all}
 use Rattle.faults.proofs.Faults.{clash-clear, clash-at}
 use Rattle.faults.proofs.clash_fault.Goals as goal
@@ -25,7 +24,7 @@ loop-j-preserved c =
     let z = clash-clear a.rule a.section a.offset a.from a.to a.page.now l.j
     (sym c.is_clear.ensures ∙ c.if-not-is_clear.false) in (
       search rules,
-      told_more (clash a.rule a.section a.offset a.from a.to a.page.now) l.j Clear l.invariant.1
+      told_more (clash a.rule a.section a.offset a.from a.to a.page.now) l.j (Ok tt) l.invariant.1
           (sym z) refl,
     )
 

@@ -1,6 +1,6 @@
 use Rattle.std.proofs.Common.{sym, ap, ◌∙◌, arith, rules}
 use Rattle.faults.specs.Faults.{entry_fault, entry_of}
-use Rattle.faults.proofs.Order.{first-none, told_more, told_at, told-all}
+use Rattle.faults.proofs.Order.{told_on, first-none, told_more, told_at, told-all}
 use Rattle.faults.proofs.Faults.{place-first, place-next, place-room}
 use Rattle.faults.proofs.entries_fault.Goals as goal
 
@@ -13,20 +13,20 @@ loop-i-init c =
       first-none (entry_of a.minor a.k a.at a.page.now),
     )
 
-pub entry_fault-told-requires : goal.entry_fault-told-requires
-entry_fault-told-requires c =
+pub entry_fault-requires : goal.entry_fault-requires
+entry_fault-requires c =
     let a = c.args in
     let l = c.loop-i in
     (place-room a.k a.at l.i a.count l.from _ 4096 l.invariant.1 l.invariant.2 (omega arith)
     c.requires).0
 
-pub returns-in_default : goal.returns-in_default
+pub returns-in_err-entry_fault : goal.returns-in_err-entry_fault
 unfolding entry_of
-returns-in_default c = let a = c.args in
+returns-in_err-entry_fault c = let a = c.args in
     let l = c.loop-i in
-    told_at (entry_of a.minor a.k a.at a.page.now) l.i _ l.invariant.3
-    (c.entry_fault-told.ensures ∙ ap (λ x. entry_fault a.minor a.k l.i x a.page.now) l.invariant.1)
-    a.count _ (omega arith) c.in_default.is
+    told_on c.in_err-entry_fault.was c.from_residual.ensures.1 ∙ told_at (entry_of a.minor a.k a.at a.page.now) l.i _ l.invariant.3
+    (c.entry_fault.ensures ∙ ap (λ x. entry_fault a.minor a.k l.i x a.page.now) l.invariant.1)
+    a.count _ (omega arith) c.in_err-entry_fault.was
 
 pub overflow_add-from : goal.overflow_add-from
 overflow_add-from c =
@@ -46,8 +46,8 @@ loop-i-preserved c = let a = c.args in
       place-next a.k a.at l.i l.from _ l.invariant.1 l.invariant.2,
       l.invariant.2,
       told_more (entry_of a.minor a.k a.at a.page.now) l.i _ l.invariant.3
-          (c.entry_fault-told.ensures ∙ ap (λ x. entry_fault a.minor a.k l.i x a.page.now) l.invariant.1)
-          c.in-Clear.is,
+          (c.entry_fault.ensures ∙ ap (λ x. entry_fault a.minor a.k l.i x a.page.now) l.invariant.1)
+          c.in_ok-entry_fault.was,
     )
 
 pub returns : goal.returns

@@ -1,5 +1,6 @@
 use Rattle.std.proofs.Common.{length, ◌∙◌, arith, rules}
 use Rattle.sections.proofs.Sections.{placed}
+use Rattle.faults.proofs.Order.{told_on}
 use Rattle.faults.proofs.Told.{told-padding, told-plat, told-top, told-sections, told-ends, told-overlaps}
 use Rattle.faults.proofs.rules_fault.Goals as goal
 
@@ -23,18 +24,18 @@ returns-in_default c =
     c.word_at-plat.ensures _ c.plat_rule.ensures
     c.in_default.is _ c.plat_fault.ensures
 
-pub sections_fault-told-requires : goal.sections_fault-told-requires
-sections_fault-told-requires c =
+pub sections_fault-requires : goal.sections_fault-requires
+sections_fault-requires c =
     let a = c.args in omega (arith, (placed a.base (length a.page.now) c.requires).3)
 
-pub returns-in_default-told : goal.returns-in_default-told
-returns-in_default-told c =
+pub returns-in_err-sections_fault : goal.returns-in_err-sections_fault
+returns-in_err-sections_fault c =
     let a = c.args in
-    told-sections a.minor a.e.minor a.base a.page.now c.requires _
+    told_on c.in_err-sections_fault.was c.from_residual.ensures.1 ∙ told-sections a.minor a.e.minor a.base a.page.now c.requires _
     c.padding_at-padding.ensures c.if-padding-ne0.false _ c.word_at-plat.ensures _
     c.plat_rule.ensures _
     c.in-Some.is _ c.sections-n.ensures.0 _
-    c.sections_fault-told.ensures _ c.in_default-told.is
+    c.sections_fault.ensures _ c.in_err-sections_fault.was
 
 pub overflow_add-plat : goal.overflow_add-plat
 overflow_add-plat c =
@@ -55,7 +56,7 @@ overlaps-requires c =
           c.padding_at-padding.ensures c.if-padding-ne0.false _ c.word_at-plat.ensures _
           c.plat_rule.ensures _
           c.in-Some.is _ c.sections-n.ensures.0 _
-          c.sections_fault-told.ensures c.in-Clear.is,
+          c.sections_fault.ensures c.in_ok-sections_fault.was,
     )
 
 pub returns : goal.returns
@@ -64,5 +65,5 @@ returns c =
     told-overlaps a.minor a.e.minor a.base a.page.now c.requires _
     c.padding_at-padding.ensures c.if-padding-ne0.false _ c.word_at-plat.ensures _
     c.plat_rule.ensures _ c.in-Some.is _
-    c.sections-n.ensures.0 _ c.sections_fault-told.ensures
-    c.in-Clear.is _ c.overlaps.ensures
+    c.sections-n.ensures.0 _ c.sections_fault.ensures
+    c.in_ok-sections_fault.was _ c.overlaps.ensures

@@ -1,17 +1,17 @@
-use Rattle.std.proofs.Common.{arith, rules}
+use Rattle.std.proofs.Common.{◌∙◌, arith, rules}
 use Rattle.faults.specs.Faults.{section_fault}
-use Rattle.faults.proofs.Order.{first-none, told_more, told_at, told-all}
+use Rattle.faults.proofs.Order.{told_on, first-none, told_more, told_at, told-all}
 use Rattle.faults.proofs.sections_fault.Goals as goal
 
 pub loop-k-init : goal.loop-k-init
 loop-k-init c = let a = c.args in (search rules, first-none (section_fault a.minor a.e.minor a.base a.page.now))
 
-pub returns-in_default : goal.returns-in_default
-returns-in_default c =
+pub returns-in_err-section_fault : goal.returns-in_err-section_fault
+returns-in_err-section_fault c =
     let a = c.args in
     let l = c.loop-k in
-    told_at (section_fault a.minor a.e.minor a.base a.page.now) l.k _ l.invariant.1
-    c.section_fault-told.ensures a.n _ (omega arith) c.in_default.is
+    told_on c.in_err-section_fault.was c.from_residual.ensures.1 ∙ told_at (section_fault a.minor a.e.minor a.base a.page.now) l.k _ l.invariant.1
+    c.section_fault.ensures a.n _ (omega arith) c.in_err-section_fault.was
 
 pub loop-k-preserved : goal.loop-k-preserved
 loop-k-preserved c =
@@ -19,7 +19,7 @@ loop-k-preserved c =
     let l = c.loop-k in (
       search rules,
       told_more (section_fault a.minor a.e.minor a.base a.page.now) l.k _ l.invariant.1
-          c.section_fault-told.ensures c.in-Clear.is,
+          c.section_fault.ensures c.in_ok-section_fault.was,
     )
 
 pub returns : goal.returns

@@ -1,10 +1,10 @@
+use Rattle.std.proofs.Common.{Ok}
 use mathlib.Core.Bool.{true, false}
 use mathlib.Core.Path.{◌≡◌, sym, ap, ◌∙◌}
 use lib.ListN.{length}
 use Rattle.versions.specs.Version.{version_ok}
 use Rattle.sections.specs.Page.{place_ok, version_at}
-use Rattle.mend.specs.declared.Mended.{Mended}
-use Rattle.mend.specs.declared.Mended.TheVariants.{Done}
+use Rattle.mend.specs.Mend.{Mended}
 use Rattle.mend.proofs.Parts.{mend-told, mend-place, mend-version, mend-done}
 use Rattle.mend.proofs.mend.Goals as goal
 
@@ -36,4 +36,4 @@ returns c =
     let v : version_ok (version_at a.page.now) ≡ true = rw (← c.version_at-version.ensures)
     (sym c.is_accepted.ensures ∙ c.if-not-is_accepted.false) in
     let d = mend-done a.base a.page.now p v in
-    let told = mend-told a.base a.page.now _ _ (ap {B = Mended} Done c.mend_parts.ensures.0 ∙ d.0, c.mend_parts.ensures.1 ∙ d.1) in record { value = told.0; page_after = told.1.0; result_value = told.1.1 }
+    let told = mend-told a.base a.page.now _ _ (ap {B = Mended} Ok c.mend_parts.ensures.0 ∙ d.0, c.mend_parts.ensures.1 ∙ d.1) in record { value = told.0; page_after = told.1.0; result_value = told.1.1 }

@@ -1,20 +1,26 @@
-use mathlib.Core.Path.{sym, ap}
-use Rattle.mend.specs.Report.{change_words, report_words}
+use Rattle.std.proofs.Common.{◌≡◌, Bool, true, false, refl, sym, ap, ◌∙◌}
+use Rattle.std.specs.Int.{from_bool}
+use Rattle.mend.specs.Report.{flag_word, change_words, report_words}
 use Rattle.mend.proofs.report_words.Goals as goal
 
-pub returns-in-Done : goal.returns-in-Done
-unfolding report_words change_words
-returns-in-Done c =
-    rw (
-      c.flag.ensures,
-      c.flag-in-Done.ensures,
-      c.flag-in-Done-2.ensures,
-      c.flag-in-Done-3.ensures,
-      c.flag-in-Done-4.ensures,
-      c.flag-in-Done-5.ensures,
-    )
-    (sym (ap report_words c.in-Done.is))
+flag-from : (b : Bool) → from_bool b ≡ flag_word b
+unfolding flag_word
+flag-from true = refl
+flag-from false = refl
 
-pub returns-in-Refused : goal.returns-in-Refused
+pub returns-in-Ok : goal.returns-in-Ok
+unfolding report_words change_words
+returns-in-Ok c =
+    rw (
+      c.from.ensures ∙ flag-from _,
+      c.from-in-Ok.ensures ∙ flag-from _,
+      c.from-in-Ok-2.ensures ∙ flag-from _,
+      c.from-in-Ok-3.ensures ∙ flag-from _,
+      c.from-in-Ok-4.ensures ∙ flag-from _,
+      c.from-in-Ok-5.ensures ∙ flag-from _,
+    )
+    (sym (ap report_words c.in-Ok.is))
+
+pub returns-in-Err : goal.returns-in-Err
 unfolding report_words
-returns-in-Refused c = sym (ap report_words c.in-Refused.is)
+returns-in-Err c = sym (ap report_words c.in-Err.is)

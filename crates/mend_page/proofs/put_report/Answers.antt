@@ -4,14 +4,14 @@ use Rattle.mend_page.proofs.Laws.{report-put}
 use borrow.Author.Rules.{rules}
 use Rattle.mend_page.proofs.put_report.Goals as goal
 
-pub returns-in-Done : goal.returns-in-Done
+pub returns-in-Ok : goal.returns-in-Ok
 unfolding report_text
-returns-in-Done c =
-    let told = report-put _ _ c.args.out.now (sym (ap report_text c.in-Done.is))
+returns-in-Ok c =
+    let told = report-put _ _ c.args.out.now (sym (ap report_text c.in-Ok.is))
     c.put_changes.ensures (search rules) in record { prefix_len = told.0; value = told.1 }
 
-pub returns-in-Refused : goal.returns-in-Refused
+pub returns-in-Err : goal.returns-in-Err
 unfolding report_text
-returns-in-Refused c =
-    let told = report-put _ _ c.args.out.now (sym (ap report_text c.in-Refused.is))
+returns-in-Err c =
+    let told = report-put _ _ c.args.out.now (sym (ap report_text c.in-Err.is))
     c.put_refused.ensures (search rules) in record { prefix_len = told.0; value = told.1 }

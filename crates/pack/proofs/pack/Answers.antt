@@ -1,11 +1,11 @@
-use Rattle.std.proofs.Common.{length, sym, refl, ◌∙◌, arith, rules}
+use Rattle.std.proofs.Common.{length, sym, refl, ◌∙◌, arith, rules, Err}
 use Rattle.reader.specs.Answer.{minus}
 use Rattle.reader.specs.Reading.{refusal_number}
 use Rattle.reader.specs.declared.Refusal.TheVariants as refusal
 use Rattle.writer_rules.specs.Write.{no-page}
 use Rattle.writer_rules.specs.Wrote.{page_after}
 use Rattle.pack.specs.Pack.{stopped, written, packed_by, target_after}
-use Rattle.pack.specs.declared.Packing.TheVariants as packing
+use Rattle.pack.specs.declared.PackError.TheVariants as pack_error
 use Rattle.pack.proofs.Answers.{refused-packs, late-packs, target-packs, page-packs, page-ready, packs-not, packs-page}
 use Rattle.pack.proofs.pack.Goals as goal
 
@@ -13,7 +13,7 @@ pub returns-then-minor-gt4 : goal.returns-then-minor-gt4
 unfolding packed_by target_after
 returns-then-minor-gt4 c =
     let a = c.args in
-    let told = packs-not (packing.Refused refusal.Version) a.target.now _ (stopped (minus 6)) refl refl
+    let told = packs-not (Err (pack_error.Refused refusal.Version)) a.target.now _ (stopped (minus 6)) refl refl
     (late-packs a.base a.page.now _ (sym c.in-Ok.is ∙
     c.judge.ensures.value) (length a.target.now) (search rules))
     (λ i. omega (arith, c.shared_slice_known-1.given i)) in record { result_after = told.0; target_after = told.1.0; by_index = told.1.1 }
@@ -22,7 +22,7 @@ pub returns-then-target-ne-PAGE_LEN : goal.returns-then-target-ne-PAGE_LEN
 unfolding packed_by target_after page_after
 returns-then-target-ne-PAGE_LEN c =
     let a = c.args in
-    let told = packs-not packing.Target a.target.now _ (written (no-page 1)) refl refl
+    let told = packs-not (Err pack_error.Target) a.target.now _ (written (no-page 1)) refl refl
     (target-packs a.base a.page.now _ (sym c.in-Ok.is ∙
     c.judge.ensures.value) (length a.target.now) (search rules) (search rules))
     (λ i. omega (arith, c.shared_slice_known-1.given i)) in record { result_after = told.0; target_after = told.1.0; by_index = told.1.1 }
@@ -50,11 +50,11 @@ pub returns-in-Err : goal.returns-in-Err
 unfolding packed_by target_after
 returns-in-Err c =
     let a = c.args in
-    let told = packs-not (packing.Refused c.in-Err.code) a.target.now _
+    let told = packs-not (Err (pack_error.Refused c.in-Err.code)) a.target.now _
     (stopped (refusal_number c.in-Err.code)) refl refl
     (refused-packs a.base a.page.now (length a.target.now) _
     (sym c.in-Err.is ∙ c.judge.ensures.value))
-    (λ i. omega (arith, c.shared_slice_known-1.given i)) in record { result_after = told.0; target_after = told.1.0; by_index = told.1.1 }
+    (λ i. omega (arith, c.shared_slice_known-1.given i)) in rw c.from.ensures (record { result_after = told.0; target_after = told.1.0; by_index = told.1.1 })
 
 pub returns-else-target-ne-PAGE_LEN : goal.returns-else-target-ne-PAGE_LEN
 returns-else-target-ne-PAGE_LEN c =

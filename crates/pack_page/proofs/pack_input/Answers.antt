@@ -1,7 +1,9 @@
-use mathlib.Core.Path.{sym, ap, ◌∙◌}
+use Rattle.std.proofs.Common.{Err}
+use mathlib.Core.Path.{◌≡◌, sym, ap, ◌∙◌}
 use lib.ListN.{length}
 use lib.Seq.{take-length}
 use Rattle.pack.specs.Pack.{packed_by}
+use Rattle.pack.specs.declared.PackError.TheVariants.{Refused, Target}
 use Rattle.pack_page.specs.Prints.{output_of}
 use Rattle.pack_page.proofs.Inputs.{input-short, input-packed}
 use borrow.Author.Rules.{rules}
@@ -15,31 +17,35 @@ returns-then-input-ne4104 c = (
       c.if-input-ne4104.true,
 )
 
-pub returns-in-Page : goal.returns-in-Page
+pub returns-in-Ok : goal.returns-in-Ok
 unfolding packed_by output_of
-returns-in-Page c = (
+returns-in-Ok c = (
   search rules,
   take-length _ ∙ input-packed c.args.input.now _
       (length c.args.out.now) _ (search rules)
       c.word_at.ensures c.requires
-      (ap (packed_by _) (sym c.in-Page.is) ∙ c.pack.ensures.result_after),
+      (ap (packed_by _) (sym c.in-Ok.is) ∙ c.pack.ensures.result_after),
 )
 
-pub returns-in-Refused : goal.returns-in-Refused
+pub returns-in-Err-Refused : goal.returns-in-Err-Refused
 unfolding packed_by output_of
-returns-in-Refused c = (
-  c.put_code-in-Refused.ensures.0,
-  c.put_code-in-Refused.ensures.1 ∙
-      input-packed c.args.input.now _ (length c.args.out.now) _ (search rules)
-      c.word_at.ensures c.requires
-      (ap (packed_by _) (sym c.in-Refused.is) ∙ c.pack.ensures.result_after),
-)
+returns-in-Err-Refused c =
+    let f : c.in-Err-Refused.field-0 ≡ Refused c.in-Err-Refused.code = c.in-Err-Refused.field-0-is in
+    let e : c.pack.result ≡ Err (Refused c.in-Err-Refused.code) = c.in-Err-Refused.is ∙ ap Err f in (
+      c.put_code-in-Err-Refused.ensures.0,
+      c.put_code-in-Err-Refused.ensures.1 ∙
+          input-packed c.args.input.now _ (length c.args.out.now) _ (search rules)
+          c.word_at.ensures c.requires
+          (ap (packed_by _) (sym e) ∙ c.pack.ensures.result_after),
+    )
 
-pub returns-in-Target : goal.returns-in-Target
+pub returns-in-Err-Target : goal.returns-in-Err-Target
 unfolding packed_by output_of
-returns-in-Target c = (
-  search rules,
-  input-packed c.args.input.now _ (length c.args.out.now) _
-      (search rules) c.word_at.ensures c.requires
-      (ap (packed_by _) (sym c.in-Target.is) ∙ c.pack.ensures.result_after),
-)
+returns-in-Err-Target c =
+    let f : c.in-Err-Target.field-0 ≡ Target = c.in-Err-Target.field-0-is in
+    let e : c.pack.result ≡ Err Target = c.in-Err-Target.is ∙ ap Err f in (
+      search rules,
+      input-packed c.args.input.now _ (length c.args.out.now) _
+          (search rules) c.word_at.ensures c.requires
+          (ap (packed_by _) (sym e) ∙ c.pack.ensures.result_after),
+    )

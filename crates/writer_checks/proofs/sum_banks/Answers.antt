@@ -29,4 +29,4 @@ returns c =
     let a = c.args in
     let l = c.loop-i in
     let e : l.i ≡ a.count = omega arith in
-    (rw e at l.invariant.2, c.banks_clear-ok.ensures ∙ l.invariant.3 ∙ rw e)
+    c.then_some.ensures ∙ rw (c.banks_clear.ensures ∙ l.invariant.3, l.invariant.2, e)

@@ -1,4 +1,4 @@
-use Rattle.std.proofs.Common.{◌≡◌, ◌*◌, ◌/◌, ◌%◌, ◌^◌, ◌≤◌, length, sym, ap, ◌∙◌, true≢false, arith}
+use Rattle.std.proofs.Common.{◌≡◌, ◌*◌, ◌/◌, ◌%◌, ◌≤◌, length, sym, ap, ◌∙◌, arith}
 use Rattle.entries.specs.Entry.{words_per_entry, entries_ok}
 use Rattle.entries.proofs.Entries.{per-one, per-other}
 use Rattle.writer_checks.proofs.Lists.{whole_room, list-part, list-whole, sum-all}
@@ -6,13 +6,11 @@ use Rattle.writer_checks.proofs.sum_list.Goals as goal
 
 pub returns-then-words-step-ne0 : goal.returns-then-words-step-ne0
 returns-then-words-step-ne0 c =
-    let a = c.args in (
-      sym (list-part a.minor a.k a.words.now (rw c.entry_words-step.ensures.0 at c.if-words-step-ne0.true)),
-      λ e. absurd (true≢false (sym e)),
-    )
+    let a = c.args in
+    rw (list-part a.minor a.k a.words.now (rw c.entry_words-step.ensures.0 at c.if-words-step-ne0.true))
 
-pub consoles_ok-ok-requires : goal.consoles_ok-ok-requires
-consoles_ok-ok-requires c =
+pub consoles_ok-requires : goal.consoles_ok-requires
+consoles_ok-requires c =
     let a = c.args in
     let n = length a.words.now in
     let p : words_per_entry a.k ≡ 6 = ap words_per_entry c.if-k-eq1.true ∙ per-one in
@@ -25,13 +23,12 @@ pub returns-then-k-eq1 : goal.returns-then-k-eq1
 returns-then-k-eq1 c =
     let a = c.args in
     let w = c.entry_words-step in
-    let n = length a.words.now in (
-      c.consoles_ok-ok.ensures
-          ∙ ap (λ x. entries_ok a.minor x (n / w.result) a.words.now) (sym c.if-k-eq1.true)
-          ∙ ap (λ x. entries_ok a.minor a.k (n / x) a.words.now) w.ensures.0
-          ∙ sym (list-whole a.minor a.k a.words.now (rw w.ensures.0 at c.if-words-step-ne0.false)),
-      λ e. c.sum_of-sum.ensures,
-    )
+    let n = length a.words.now in
+    let ok = c.consoles_ok.ensures
+    ∙ ap (λ x. entries_ok a.minor x (n / w.result) a.words.now) (sym c.if-k-eq1.true)
+    ∙ ap (λ x. entries_ok a.minor a.k (n / x) a.words.now) w.ensures.0
+    ∙ sym (list-whole a.minor a.k a.words.now (rw w.ensures.0 at c.if-words-step-ne0.false)) in
+    c.then_some.ensures ∙ rw (ok, c.sum_of-sum.ensures)
 
 pub sum_banks-requires : goal.sum_banks-requires
 sum_banks-requires c =
@@ -49,9 +46,7 @@ returns c =
     let n = length a.words.now in
     let p : w.result ≡ 2 = w.ensures.0 ∙ per-other a.k c.if-k-eq1.false in
     let z : n % 2 ≡ 0 = rw p at c.if-words-step-ne0.false in
-    let m : n / w.result ≡ n / 2 = ap (λ x. n / x) p in (
-      c.sum_banks.ensures.1
-          ∙ ap (λ x. entries_ok a.minor a.k (n / x) a.words.now) w.ensures.0
-          ∙ sym (list-whole a.minor a.k a.words.now (rw w.ensures.0 at c.if-words-step-ne0.false)),
-      λ e. c.sum_banks.ensures.0 ∙ ap (λ x. x % 2 ^ 64) (sum-all a.words.now (2 * (n / w.result)) (omega arith)),
-    )
+    let m : n / w.result ≡ n / 2 = ap (λ x. n / x) p in
+    let ok = ap (λ x. entries_ok a.minor a.k (n / x) a.words.now) w.ensures.0
+    ∙ sym (list-whole a.minor a.k a.words.now (rw w.ensures.0 at c.if-words-step-ne0.false)) in
+    c.sum_banks.ensures ∙ rw (ok, sum-all a.words.now (2 * (n / w.result)) (omega arith))

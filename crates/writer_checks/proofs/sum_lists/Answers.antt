@@ -1,74 +1,58 @@
-use Rattle.std.proofs.Common.{◌≡◌, true, false, sym, ◌∙◌}
-use borrow.Author.Tests.{not-true, not-false}
+use Rattle.std.proofs.Common.{◌∙◌}
 use Rattle.words.specs.Tests.{both}
-use Rattle.writer_checks.specs.Description.{list_ok}
-use Rattle.writer_checks.proofs.Lists.{sums-not, sums-are, sums-told}
+use Rattle.writer_checks.proofs.Lists.{some-list, none-list, sums-not, sums-are, sums-told}
 use Rattle.writer_checks.proofs.sum_lists.Goals as goal
 
-pub returns-then-not-first : goal.returns-then-not-first
+pub returns-in_err-sum_list : goal.returns-in_err-sum_list
 unfolding both
-returns-then-not-first c =
+returns-in_err-sum_list c =
     let a = c.args in
-    let q0 : list_ok a.minor 0 a.dram.now ≡ false = sym c.sum_list-first.ensures.0 ∙ not-true _ c.if-not-first.true in
+    let q0 = none-list a.minor 0 a.dram.now c.sum_list.ensures c.in_err-sum_list.was in
     let told = sums-told a.minor a.dram.now a.console.now a.ncoh.now a.coh.now
-    (sums-not a.minor a.dram.now a.console.now a.ncoh.now a.coh.now (rw q0)) in record { value = told.0; result_value = told.1 }
+    (c.from_residual.ensures ∙ sums-not a.minor a.dram.now a.console.now a.ncoh.now a.coh.now (rw (q0))) in
+    record { value = told.0; result_value = told.1 }
 
-pub returns-then-not-second : goal.returns-then-not-second
+pub returns-in_err-sum_list-2 : goal.returns-in_err-sum_list-2
 unfolding both
-returns-then-not-second c =
+returns-in_err-sum_list-2 c =
     let a = c.args in
-    let q0 : list_ok a.minor 0 a.dram.now ≡ true = sym c.sum_list-first.ensures.0 ∙
-    not-false _ c.if-not-first.false in
-    let q1 : list_ok a.minor 1 a.console.now ≡ false = sym c.sum_list-second.ensures.0 ∙ not-true _ c.if-not-second.true in
+    let q0 = (some-list a.minor 0 a.dram.now _ c.sum_list.ensures c.in_ok-sum_list.was).0 in
+    let q1 = none-list a.minor 1 a.console.now c.sum_list-2.ensures c.in_err-sum_list-2.was in
     let told = sums-told a.minor a.dram.now a.console.now a.ncoh.now a.coh.now
-    (sums-not a.minor a.dram.now a.console.now a.ncoh.now a.coh.now (rw (q0, q1))) in record { value = told.0; result_value = told.1 }
+    (c.from_residual-in_err-sum_list-2.ensures ∙ sums-not a.minor a.dram.now a.console.now a.ncoh.now a.coh.now (rw (q0, q1))) in
+    record { value = told.0; result_value = told.1 }
 
-pub returns-then-not-third : goal.returns-then-not-third
+pub returns-in_err-sum_list-3 : goal.returns-in_err-sum_list-3
 unfolding both
-returns-then-not-third c =
-    let s3 = c.sum_list-third.ensures in
-    let s2 = c.sum_list-second.ensures in
-    let s1 = c.sum_list-first.ensures in
+returns-in_err-sum_list-3 c =
     let a = c.args in
-    let q0 : list_ok a.minor 0 a.dram.now ≡ true = sym s1.0 ∙
-    not-false _ c.if-not-first.false in
-    let q1 : list_ok a.minor 1 a.console.now ≡ true = sym s2.0 ∙ not-false _ c.if-not-second.false in
-    let q2 : list_ok a.minor 2 a.ncoh.now ≡ false = sym s3.0 ∙ not-true _ c.if-not-third.true in
+    let q0 = (some-list a.minor 0 a.dram.now _ c.sum_list.ensures c.in_ok-sum_list.was).0 in
+    let q1 = (some-list a.minor 1 a.console.now _ c.sum_list-2.ensures c.in_ok-sum_list-2.was).0 in
+    let q2 = none-list a.minor 2 a.ncoh.now c.sum_list-3.ensures c.in_err-sum_list-3.was in
     let told = sums-told a.minor a.dram.now a.console.now a.ncoh.now a.coh.now
-    (sums-not a.minor a.dram.now a.console.now a.ncoh.now a.coh.now (rw (q0, q1, q2))) in record { value = told.0; result_value = told.1 }
+    (c.from_residual-in_err-sum_list-3.ensures ∙ sums-not a.minor a.dram.now a.console.now a.ncoh.now a.coh.now (rw (q0, q1, q2))) in
+    record { value = told.0; result_value = told.1 }
 
-pub returns-then-not-fourth : goal.returns-then-not-fourth
+pub returns-in_err-sum_list-4 : goal.returns-in_err-sum_list-4
 unfolding both
-returns-then-not-fourth c =
-    let s4 = c.sum_list-fourth.ensures in
-    let s3 = c.sum_list-third.ensures in
-    let s2 = c.sum_list-second.ensures in
-    let s1 = c.sum_list-first.ensures in
+returns-in_err-sum_list-4 c =
     let a = c.args in
-    let q0 : list_ok a.minor 0 a.dram.now ≡ true = sym s1.0 ∙ not-false _ c.if-not-first.false in
-    let q1 : list_ok a.minor 1 a.console.now ≡ true = sym s2.0 ∙
-    not-false _ c.if-not-second.false in
-    let q2 : list_ok a.minor 2 a.ncoh.now ≡ true = sym s3.0 ∙ not-false _ c.if-not-third.false in
-    let q3 : list_ok a.minor 3 a.coh.now ≡ false = sym s4.0 ∙ not-true _ c.if-not-fourth.true in
+    let q0 = (some-list a.minor 0 a.dram.now _ c.sum_list.ensures c.in_ok-sum_list.was).0 in
+    let q1 = (some-list a.minor 1 a.console.now _ c.sum_list-2.ensures c.in_ok-sum_list-2.was).0 in
+    let q2 = (some-list a.minor 2 a.ncoh.now _ c.sum_list-3.ensures c.in_ok-sum_list-3.was).0 in
+    let q3 = none-list a.minor 3 a.coh.now c.sum_list-4.ensures c.in_err-sum_list-4.was in
     let told = sums-told a.minor a.dram.now a.console.now a.ncoh.now a.coh.now
-    (sums-not a.minor a.dram.now a.console.now a.ncoh.now a.coh.now (rw (q0, q1, q2, q3))) in record { value = told.0; result_value = told.1 }
+    (c.from_residual-in_err-sum_list-4.ensures ∙ sums-not a.minor a.dram.now a.console.now a.ncoh.now a.coh.now (rw (q0, q1, q2, q3))) in
+    record { value = told.0; result_value = told.1 }
 
 pub returns : goal.returns
 unfolding both
 returns c =
-    let s4 = c.sum_list-fourth.ensures in
-    let s3 = c.sum_list-third.ensures in
-    let s2 = c.sum_list-second.ensures in
-    let s1 = c.sum_list-first.ensures in
-    let k4 = not-false _ c.if-not-fourth.false in
-    let k3 = not-false _ c.if-not-third.false in
-    let k2 = not-false _ c.if-not-second.false in
-    let k1 = not-false _ c.if-not-first.false in
     let a = c.args in
-    let q0 : list_ok a.minor 0 a.dram.now ≡ true = sym s1.0 ∙ k1 in
-    let q1 : list_ok a.minor 1 a.console.now ≡ true = sym s2.0 ∙ k2 in
-    let q2 : list_ok a.minor 2 a.ncoh.now ≡ true = sym s3.0 ∙ k3 in
-    let q3 : list_ok a.minor 3 a.coh.now ≡ true = sym s4.0 ∙ k4 in
+    let q0 = some-list a.minor 0 a.dram.now _ c.sum_list.ensures c.in_ok-sum_list.was in
+    let q1 = some-list a.minor 1 a.console.now _ c.sum_list-2.ensures c.in_ok-sum_list-2.was in
+    let q2 = some-list a.minor 2 a.ncoh.now _ c.sum_list-3.ensures c.in_ok-sum_list-3.was in
+    let q3 = some-list a.minor 3 a.coh.now _ c.sum_list-4.ensures c.in_ok-sum_list-4.was in
     let told = sums-told a.minor a.dram.now a.console.now a.ncoh.now a.coh.now
-    (sums-are a.minor a.dram.now a.console.now a.ncoh.now a.coh.now _ _ _ _ (rw (q0, q1, q2, q3)) (s1.1 k1) (s2.1 k2)
-    (s3.1 k3) (s4.1 k4)) in record { value = told.0; result_value = told.1 }
+    (sums-are a.minor a.dram.now a.console.now a.ncoh.now a.coh.now _ _ _ _ (rw (q0.0, q1.0, q2.0, q3.0)) q0.1 q1.1 q2.1 q3.1) in
+    record { value = told.0; result_value = told.1 }

@@ -1,16 +1,14 @@
-use Rattle.std.proofs.Common.{◌∙◌, arith, rules}
+use Rattle.std.proofs.Common.{◌∙◌, arith}
 use Rattle.writer_checks.proofs.Lists.{sum-none, sum_more, sum-all}
 use Rattle.writer_checks.proofs.sum_of.Goals as goal
 
-pub loop-i-init : goal.loop-i-init
-loop-i-init c = (search rules, sum-none c.args.words.now)
+pub loop-word-init : goal.loop-word-init
+loop-word-init c = sum-none c.args.words.now
 
-pub loop-i-preserved : goal.loop-i-preserved
-loop-i-preserved c = (
-  search rules,
-  sum_more c.args.words.now c.loop-i.i
-      c.loop-i.total _ (omega arith) c.loop-i.invariant.1 c.wrapping_add_u64-total.ensures.value,
-)
+pub loop-word-preserved : goal.loop-word-preserved
+loop-word-preserved c =
+    let l = c.loop-word in
+    sum_more c.args.words.now l.word-index l.total _ (omega arith) l.invariant c.wrapping_add_u64-total.ensures.value
 
 pub returns : goal.returns
-returns c = c.loop-i.invariant.1 ∙ rw (sum-all c.args.words.now c.loop-i.i (omega arith))
+returns c = c.loop-word.invariant ∙ rw (sum-all c.args.words.now c.loop-word.word-index (omega arith))
