@@ -13,8 +13,7 @@ use Rattle.codes.specs.Codes.{boot_params, is_false, fails, is_ok, answer_of, ga
 use Rattle.codes.specs.declared.Answer.{Answer}
 use Rattle.codes.specs.declared.Code.{Code}
 use Rattle.codes.specs.declared.Code.TheVariants.{Ok, Unk, Inval}
-use Rattle.codes.specs.declared.Gate.{Gate}
-use Rattle.codes.specs.declared.Gate.TheVariants.{Stop, Go}
+use Rattle.std.specs.Prelude.{Result, Err, Ok as Go}
 use Rattle.codes.proofs.Gates.{went, stood, then-stop, then-go}
 use Rattle.buffer_check.specs.Range.{place_of, page_code}
 use Rattle.buffer_check.specs.declared.OutsideAs.TheVariants.{BadAddress}
@@ -58,9 +57,9 @@ unfolding realm_key_of keyed answer_of
 key-refused r page key pa size curve h = rw h
 
 -- the call, by the gate g of the common checks
-module _ (r : Record) (page key : List ℕ) (pa size curve : ℕ) (g : Gate)
+module _ (r : Record) (page key : List ℕ) (pa size curve : ℕ) (g : Result ℕ Code)
     (cg : g ≡ gated (page_code r (length page) Ok BadAddress pa size) (place_of (boot_params r) pa)) where
-  pub told-stop : (c : Code) → g ≡ Stop c → (a : Answer) → a ≡ answer_of c 0 0 →
+  pub told-stop : (c : Code) → g ≡ Err c → (a : Answer) → a ≡ answer_of c 0 0 →
       ◌≡◌ {A = Keyed} (record { answer = a; page = page }) (realm_key_of r page key pa size curve)
   unfolding realm_key_of key_code
   told-stop c h a e =

@@ -6,7 +6,7 @@ ghost use Rattle.attest.specs.Key.{Keyed, key_rest, keyed, realm_key_of};
 
 use boot::Record;
 use buffer_check::OutsideAs;
-use codes::{Answer, Code, Gate};
+use codes::{Answer, Code};
 
 // Writes the realm key into a buffer of `size` bytes at offset `at` of the page.
 fn put_key(page: &mut [u8], key: &[u8], at: usize, size: u64, curve: u64) -> Answer
@@ -14,16 +14,16 @@ fn put_key(page: &mut [u8], key: &[u8], at: usize, size: u64, curve: u64) -> Ans
     ensures { ◌≡◌ {A = Keyed} (record { answer = result; page = page.new }) (keyed (key_rest size curve key.now) at page.old key.now) }
 {
     if curve != 0 {
-        return codes::answer_with(Code::Inval, 0, 0);
+        return Answer::refused(Code::Inval);
     }
     if key.len() == 0 {
-        return codes::answer_with(Code::Unk, 0, 0);
+        return Answer::refused(Code::Unk);
     }
     if size < (key.len() as u64) {
-        return codes::answer_with(Code::Unk, 0, 0);
+        return Answer::refused(Code::Unk);
     }
     words::copy(&mut page[at..], key);
-    codes::answer_with(Code::Ok, key.len() as u64, 0)
+    Answer::ok(key.len() as u64, 0)
 }
 
 // 0xC40001B2 (CM4): writes the realm key that the platform lends into the buffer of `size` bytes at `pa`; x1 is the key's length.
@@ -37,7 +37,7 @@ pub fn realm_key(
 ) -> Answer
     ensures { ◌≡◌ {A = Keyed} (record { answer = result; page = page.new }) (realm_key_of state page.old key.now pa size curve) }
 {
-    let gate = buffer_check::page_gate(
+    let checked = buffer_check::page_gate(
         state,
         page.len(),
         Code::Ok,
@@ -45,8 +45,8 @@ pub fn realm_key(
         pa,
         size,
     );
-    match gate {
-        Gate::Stop(code) => codes::answer_with(code, 0, 0),
-        Gate::Go(at) => put_key(page, key, at, size, curve),
+    match checked {
+        Ok(at) => put_key(page, key, at, size, curve),
+        Err(code) => Answer::refused(code),
     }
 }

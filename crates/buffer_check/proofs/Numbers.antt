@@ -11,7 +11,7 @@ use Rattle.boot.specs.declared.Record.TheVariants.{Fresh, Up, Closed}
 use Rattle.codes.specs.Codes.{number_of, is_up, boot_params, is_false, fails, when_up, and_then, gated, gate_number}
 use Rattle.codes.specs.declared.Code.{Code}
 use Rattle.codes.specs.declared.Code.TheVariants.{Ok, Unk, Inval}
-use Rattle.codes.specs.declared.Gate.{Gate}
+use Rattle.std.specs.Prelude.{Result}
 use Rattle.codes.proofs.Numbers.{number-fails, number-unless, number-then, number-gated, then-last}
 use Rattle.codes.proofs.Reasons.{then-fails, then-then, then-none}
 use Rattle.buffer_check.specs.Range.{outside, too_long, place_of, outside_code, range_code, page_code, outside_number, page_number}
@@ -72,7 +72,7 @@ module _ (len : ℕ) (first : Code) (out : OutsideAs) (pa size : ℕ) (next : Co
   page-number (Up u) = ap number_of (up-row u) ∙ up-number u
 
 -- a gate of these checks has their number
-pub gate-number : (r : Record) (len : ℕ) (first : Code) (out : OutsideAs) (pa size : ℕ) (g : Gate) →
+pub gate-number : (r : Record) (len : ℕ) (first : Code) (out : OutsideAs) (pa size : ℕ) (g : Result ℕ Code) →
     g ≡ gated (page_code r len first out pa size) (place_of (boot_params r) pa) →
     (g ≡ gated (page_code r len first out pa size) (place_of (boot_params r) pa)) × (gate_number g ≡ page_number r len first out pa size (pos 0))
 gate-number r len first out pa size g e =

@@ -12,7 +12,7 @@ use Rattle.boot.specs.declared.Record.{Record}
 use Rattle.codes.specs.Codes.{is_up, boot_params, is_false, fails, when_up, is_ok, and_then, gated}
 use Rattle.codes.specs.declared.Code.{Code}
 use Rattle.codes.specs.declared.Code.TheVariants.{Ok, Unk, Inval}
-use Rattle.codes.specs.declared.Gate.{Gate}
+use Rattle.std.specs.Prelude.{Result}
 use Rattle.codes.proofs.Gates.{fails-ok, unless-ok, first-ok, then_ok, then-stop}
 use Rattle.buffer_check.specs.Range.{outside, too_long, place_of, outside_code, range_code, page_code}
 use Rattle.buffer_check.specs.declared.OutsideAs.{OutsideAs}
@@ -87,7 +87,7 @@ module _ (r : Record) (len : ℕ) (first : Code) (out : OutsideAs) (pa size : �
       unfolding page_code when_up fails is_false and_then
       page-range f = rw (h, eq-eqb len 4096 n, f)
 
-      pub told-range : is_ok first ≡ true → (u : Params) → u ≡ boot_params r → (g : Gate) →
+      pub told-range : is_ok first ≡ true → (u : Params) → u ≡ boot_params r → (g : Result ℕ Code) →
           g ≡ gated (range_code u out pa size) (place_of u pa) →
           g ≡ gated (page_code r len first out pa size) (place_of (boot_params r) pa)
       told-range f u v g e = e ∙ rw (v, ← page-range f)

@@ -1,13 +1,16 @@
 -- What follows from the code of a row of checks, and from its gate. Assumes nothing.
 use Prim.Native.Nat.{ℕ}
 use mathlib.Core.Path.{◌≡◌, refl, sym, ap, ◌∙◌}
-use mathlib.Core.Bool.{Bool, true, false, false≢true}
+use mathlib.Core.Bool.{Bool, true, false, false≢true, true≢false}
 use native.Mathlib.Omega.{arith}
 use Rattle.words.specs.Tests.{either}
-use Rattle.codes.specs.Codes.{is_false, fails, is_ok, if_ok, and_then, gated}
+use Rattle.boot.specs.declared.Params.{Params}
+use Rattle.boot.specs.declared.Record.{Record}
+use Rattle.boot.specs.declared.Record.TheVariants.{Fresh, Up, Closed}
+use Rattle.codes.specs.Codes.{is_false, fails, is_ok, is_up, boot_params, when_up, if_ok, and_then, gated}
 use Rattle.codes.specs.declared.Code.{Code}
 use Rattle.codes.specs.declared.Code.TheVariants.{Ok, Unk, BadAddr, BadPas, Inval, Again}
-use Rattle.codes.specs.declared.Gate.TheVariants.{Stop, Go}
+use Rattle.std.specs.Prelude.{Err, Ok as Go}
 
 -- if the row is OK, its first test does not hold and the next checks are OK
 pub fails-ok : (b : Bool) (c next : Code) → is_ok c ≡ false → fails b c next ≡ Ok → (b ≡ false) × (next ≡ Ok)
@@ -56,32 +59,58 @@ pub then-go : (k next : Code) → k ≡ Ok → and_then k next ≡ next
 unfolding and_then
 then-go k next e = rw e
 
--- ---- what follows from a gate
-pub went : (k : Code) (n at : ℕ) → gated k n ≡ Go at → (k ≡ Ok) × (at ≡ n)
-unfolding gated
-went Ok n at h = (refl, cc)
-went Unk n at h = let z : ◌≡◌ {A = ℕ} 0 1 = cc in absurd (omega arith)
-went BadAddr n at h = let z : ◌≡◌ {A = ℕ} 0 1 = cc in absurd (omega arith)
-went BadPas n at h = let z : ◌≡◌ {A = ℕ} 0 1 = cc in absurd (omega arith)
-went Inval n at h = let z : ◌≡◌ {A = ℕ} 0 1 = cc in absurd (omega arith)
-went Again n at h = let z : ◌≡◌ {A = ℕ} 0 1 = cc in absurd (omega arith)
+-- ---- what follows from the result of checks
+module _ {A : Type 0} where
+  pub went : (k : Code) (x y : A) → gated k x ≡ Go y → (k ≡ Ok) × (y ≡ x)
+  unfolding gated
+  went Ok x y h = (refl, cc)
+  went Unk x y h = let z : ◌≡◌ {A = ℕ} 0 1 = cc in absurd (omega arith)
+  went BadAddr x y h = let z : ◌≡◌ {A = ℕ} 0 1 = cc in absurd (omega arith)
+  went BadPas x y h = let z : ◌≡◌ {A = ℕ} 0 1 = cc in absurd (omega arith)
+  went Inval x y h = let z : ◌≡◌ {A = ℕ} 0 1 = cc in absurd (omega arith)
+  went Again x y h = let z : ◌≡◌ {A = ℕ} 0 1 = cc in absurd (omega arith)
 
-pub stood : (k : Code) (n : ℕ) (j : Code) → gated k n ≡ Stop j → (k ≡ j) × (is_ok j ≡ false)
-unfolding gated
-stood Ok n j h = let z : ◌≡◌ {A = ℕ} 0 1 = cc in absurd (omega arith)
-stood Unk n j h = let e : Unk ≡ j = cc in (e, rw (← e))
-stood BadAddr n j h = let e : BadAddr ≡ j = cc in (e, rw (← e))
-stood BadPas n j h = let e : BadPas ≡ j = cc in (e, rw (← e))
-stood Inval n j h = let e : Inval ≡ j = cc in (e, rw (← e))
-stood Again n j h = let e : Again ≡ j = cc in (e, rw (← e))
+  pub stood : (k : Code) (x : A) (j : Code) → gated k x ≡ Err j → (k ≡ j) × (is_ok j ≡ false)
+  unfolding gated
+  stood Ok x j h = let z : ◌≡◌ {A = ℕ} 0 1 = cc in absurd (omega arith)
+  stood Unk x j h = let e : Unk ≡ j = cc in (e, rw (← e))
+  stood BadAddr x j h = let e : BadAddr ≡ j = cc in (e, rw (← e))
+  stood BadPas x j h = let e : BadPas ≡ j = cc in (e, rw (← e))
+  stood Inval x j h = let e : Inval ≡ j = cc in (e, rw (← e))
+  stood Again x j h = let e : Again ≡ j = cc in (e, rw (← e))
 
-pub stops : (k : Code) (n : ℕ) (j : Code) → k ≡ j → is_ok j ≡ false → Stop j ≡ gated k n
-unfolding gated
-stops k n j e h = rw (e, h)
+  pub stops : (k : Code) (x : A) (j : Code) → k ≡ j → is_ok j ≡ false → Err j ≡ gated k x
+  unfolding gated
+  stops k x j e h = rw (e, h)
 
-pub goes : (k : Code) (n at : ℕ) → k ≡ Ok → at ≡ n → Go at ≡ gated k n
-unfolding gated
-goes k n at e p = rw (e, p)
+  pub goes : (k : Code) (x y : A) → k ≡ Ok → y ≡ x → Go y ≡ gated k x
+  unfolding gated
+  goes k x y e p = rw (e, p)
+
+-- a code is OK if it equals OK, and only then
+pub ok-is : (k : Code) → k ≡ Ok → is_ok k ≡ true
+ok-is k e = rw e
+
+pub not_ok : (k : Code) → (k ≡ Ok → ⊥) → is_ok k ≡ false
+not_ok Ok h = absurd (h refl)
+not_ok Unk h = refl
+not_ok BadAddr h = refl
+not_ok BadPas h = refl
+not_ok Inval h = refl
+not_ok Again h = refl
+
+-- ---- the record that a command needs to be up (RT6)
+pub up-went : (r : Record) (u : Params) → gated (when_up r Ok) (boot_params r) ≡ Go u → (is_up r ≡ true) × (u ≡ boot_params r)
+unfolding when_up fails is_false is_up
+up-went Fresh u h = absurd (false≢true (ap is_ok (went _ _ u h).0))
+up-went (Up v) u h = (refl, (went _ _ u h).1)
+up-went Closed u h = absurd (false≢true (ap is_ok (went _ _ u h).0))
+
+pub up_stood : (r : Record) (j : Code) → gated (when_up r Ok) (boot_params r) ≡ Err j → (is_up r ≡ false) × (j ≡ Unk)
+unfolding when_up fails is_false is_up
+up_stood Fresh j h = (refl, sym (stood _ _ j h).0)
+up_stood (Up v) j h = absurd (true≢false (ap is_ok (stood _ _ j h).0 ∙ (stood _ _ j h).1))
+up_stood Closed j h = (refl, sym (stood _ _ j h).0)
 
 -- ---- what a call leaves
 -- a property of the result follows if it holds of the new value after OK and of the old value after a refusal

@@ -25,7 +25,7 @@ number-then BadPas next = refl
 number-then Inval next = refl
 number-then Again next = refl
 
-pub number-gated : (k : Code) (n : ℕ) → gate_number (gated k n) ≡ number_of k
+pub number-gated : {A : Type 0} (k : Code) (n : A) → gate_number (gated k n) ≡ number_of k
 unfolding gated
 number-gated Ok n = refl
 number-gated Unk n = refl

@@ -1,6 +1,6 @@
 -- Runtime codes. "Runtime codes: OK 0, UNK -1, BAD_ADDR -2, BAD_PAS -3, INVAL -5, AGAIN -6; 002's NOMEM (-4) is not used. x0
 -- holds the code sign-extended to 64 bits; unused result registers are 0." (RT1, RT2) Assumes nothing.
-use Rattle.std.specs.Prelude.{ℕ, suc, ◌-◌, ◌^◌, Bool, true, false, cond, ℤ, pos, negsuc}
+use Rattle.std.specs.Prelude.{ℕ, suc, ◌-◌, ◌^◌, Bool, true, false, cond, ℤ, pos, negsuc, Result, Err, Ok as Go}
 pub use Rattle.reader.specs.Answer.{minus}
 use Rattle.boot.specs.declared.Params.{Params}
 use Rattle.boot.specs.declared.Record.{Record}
@@ -8,8 +8,6 @@ use Rattle.boot.specs.declared.Record.TheVariants.{Fresh, Up, Closed}
 use Rattle.codes.specs.declared.Code.{Code}
 use Rattle.codes.specs.declared.Code.TheVariants.{Ok, Unk, BadAddr, BadPas, Inval, Again}
 use Rattle.codes.specs.declared.Answer.{Answer}
-use Rattle.codes.specs.declared.Gate.{Gate}
-use Rattle.codes.specs.declared.Gate.TheVariants.{Stop, Go}
 
 -- the number of each code (RT1)
 abbrev pub number_of : Code → ℤ
@@ -77,11 +75,11 @@ if_ok k new old = cond (is_ok k) new old
 unfoldable pub and_then : Code → Code → Code
 and_then k next = if_ok k next k
 
--- the result of checks with code k: stop with k, or go on with n if k is OK
-unfoldable pub gated : Code → ℕ → Gate
-gated k n = cond (is_ok k) (Go n) (Stop k)
+-- the result of checks with code k: x if k is OK, otherwise the error k. Code has an `Ok` of its own: the result's is `Go` here.
+unfoldable pub gated : {A : Type 0} → Code → A → Result A Code
+gated k x = cond (is_ok k) (Go x) (Err k)
 
--- the number of the code that a gate stops with; OK's 0 if it goes on
-abbrev pub gate_number : Gate → ℤ
-gate_number (Stop k) = number_of k
-gate_number (Go n) = pos 0
+-- the number of the code that checks refuse with; OK's 0 if all pass
+abbrev pub gate_number : {A : Type 0} → Result A Code → ℤ
+gate_number (Err k) = number_of k
+gate_number (Go x) = pos 0

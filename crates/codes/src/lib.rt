@@ -2,12 +2,13 @@
 #![tactic(auto)]
 
 ghost use Rattle.std.specs.Prelude.{◌≡◌, cond, pos};
-ghost use Rattle.codes.specs.Codes.{number_of, x0_of, answer_of, is_ok, fails, is_up, boot_params};
+ghost use Rattle.codes.specs.Codes.{number_of, x0_of, answer_of, is_ok, fails, is_up, boot_params, when_up, gated};
 
 use boot::{Params, Record};
 
-// The code of a runtime command (RT1).
-#[derive(Clone, Copy)]
+// The code of a runtime command (RT1). Checks return a `Result` with the code of the first that fails as its error; `Ok` is the code of an
+// answer.
+#[derive(Clone, Copy, PartialEq, Eq)]
 pub enum Code {
     Ok,
     Unk,
@@ -33,25 +34,43 @@ pub enum Work {
     Reprogram(u64),
 }
 
-// The result of a row of checks: the code of the first check that fails, or an offset if all pass.
-#[derive(Clone, Copy)]
-pub enum Gate {
-    Stop(Code),
-    Go(usize),
+impl From<Code> for u64 {
+    ghost from_gives = { λ code x0. x0 ≡ x0_of code };
+
+    // Returns the code sign-extended to 64 bits, as x0 holds it (RT2).
+    fn from(code: Code) -> u64 {
+        match code {
+            Code::Ok => 0,
+            Code::Unk => 0xFFFF_FFFF_FFFF_FFFF,
+            Code::BadAddr => 0xFFFF_FFFF_FFFF_FFFE,
+            Code::BadPas => 0xFFFF_FFFF_FFFF_FFFD,
+            Code::Inval => 0xFFFF_FFFF_FFFF_FFFB,
+            Code::Again => 0xFFFF_FFFF_FFFF_FFFA,
+        }
+    }
+}
+
+impl Answer {
+    // Returns OK with x1 and x2.
+    pub fn ok(x1: u64, x2: u64) -> Self
+        ensures { result ≡ answer_of Code.Ok x1 x2 }
+    {
+        answer_with(Code::Ok, x1, x2)
+    }
+
+    // Returns the answer of a code alone: x1 and x2 are 0 (RT2).
+    pub fn refused(code: Code) -> Self
+        ensures { result ≡ answer_of code 0 0 }
+    {
+        answer_with(code, 0, 0)
+    }
 }
 
 // Returns the code sign-extended to 64 bits, as x0 holds it (RT2).
 pub fn x0(code: Code) -> u64
     ensures { result ≡ x0_of code }
 {
-    match code {
-        Code::Ok => 0,
-        Code::Unk => 0xFFFF_FFFF_FFFF_FFFF,
-        Code::BadAddr => 0xFFFF_FFFF_FFFF_FFFE,
-        Code::BadPas => 0xFFFF_FFFF_FFFF_FFFD,
-        Code::Inval => 0xFFFF_FFFF_FFFF_FFFB,
-        Code::Again => 0xFFFF_FFFF_FFFF_FFFA,
-    }
+    u64::from(code)
 }
 
 // Returns the answer with this code, x1 and x2.
@@ -60,7 +79,7 @@ pub fn answer_with(code: Code, x1: u64, x2: u64) -> Answer
 {
     Answer {
         code,
-        x0: x0(code),
+        x0: u64::from(code),
         x1,
         x2,
     }
@@ -70,14 +89,7 @@ pub fn answer_with(code: Code, x1: u64, x2: u64) -> Answer
 pub fn is_ok(code: Code) -> bool
     ensures { result ≡ is_ok code }
 {
-    match code {
-        Code::Ok => true,
-        Code::Unk => false,
-        Code::BadAddr => false,
-        Code::BadPas => false,
-        Code::Inval => false,
-        Code::Again => false,
-    }
+    code == Code::Ok
 }
 
 // Returns `code` if the test holds, otherwise OK.
@@ -85,20 +97,23 @@ pub fn code_if(test: bool, code: Code) -> Code
     ensures value { result ≡ fails test code Code.Ok }
     ensures result_value { number_of result ≡ cond test (number_of code) (pos 0) }
 {
-    if test {
-        return code;
-    }
-    Code::Ok
+    if test { code } else { Code::Ok }
 }
 
 // Whether a boot record is up.
 pub fn is_up(state: Record) -> bool
     ensures { result ≡ is_up state }
 {
+    matches!(state, Record::Up(_))
+}
+
+// Returns what the boot record keeps while it is up, otherwise UNK, the code of every command that needs it (RT6).
+pub fn up_params(state: Record) -> Result<Params, Code>
+    ensures { result ≡ gated (when_up state Code.Ok) (boot_params state) }
+{
     match state {
-        Record::Fresh => false,
-        Record::Up(_) => true,
-        Record::Closed => false,
+        Record::Up(params) => Ok(params),
+        Record::Fresh | Record::Closed => Err(Code::Unk),
     }
 }
 
@@ -106,15 +121,13 @@ pub fn is_up(state: Record) -> bool
 pub fn boot_params(state: Record) -> Params
     ensures { result ≡ boot_params state }
 {
-    let none = Params {
-        cpus: 0,
-        base: 0,
-        minor: 0,
-        kept: 0,
-    };
     match state {
-        Record::Fresh => none,
         Record::Up(params) => params,
-        Record::Closed => none,
+        Record::Fresh | Record::Closed => Params {
+            cpus: 0,
+            base: 0,
+            minor: 0,
+            kept: 0,
+        },
     }
 }

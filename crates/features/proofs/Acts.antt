@@ -15,12 +15,12 @@ use Rattle.codes.specs.declared.Code.TheVariants.{Ok}
 use Rattle.codes.proofs.Gates.{fails-ok, unless-ok, either-ok}
 use Rattle.codes.specs.declared.Work.TheVariants.{Reprogram}
 use Rattle.features.specs.Features.{features_code, features_by, features_of, update_code, update_by, update_of, forward_of}
-use Rattle.features.proofs.Feature.{features-ok, update-ok}
+use Rattle.features.proofs.Feature.{features-pass, features-ok, update-pass, update-ok}
 
 -- "features": record up with minor 4 or more, index 0. "x1 is 1 (token signing present)."
 pub features-acts : (u : Params) → 4 ≤ u.minor → features_of (Up u) 0 ≡ record { code = Ok; x0 = 0; x1 = 1; x2 = 0 }
 unfolding is_up boot_params answer_of x0_of extended
-features-acts u m = sym (features-ok (Up u) 0 refl refl m)
+features-acts u m = sym (features-ok (Up u) 0 (features-pass (Up u) 0 refl refl m))
 
 -- and only then
 pub features-only : (s : Record) (index : ℕ) → (features_of s index).code ≡ Ok → (is_up s ≡ true) × (4 ≤ (boot_params s).minor) × (index ≡ 0)
@@ -39,7 +39,7 @@ update-acts u m mecid n w l =
     let k : m + 1 ≤ 16 = omega arith in
     let p : 2 ^ (m + 1) ≤ 2 ^ 16 = pow-le-pow_right (lit≤ tt) k in
     let e : min m 15 ≡ m = omega arith in
-    sym (update-ok (Up u) m mecid refl (omega arith) (rw e (le-ltb (2 ^ (m + 1) - 1) mecid l)) w n)
+    sym (update-ok (Up u) m mecid (update-pass (Up u) m mecid refl (omega arith) (rw e (le-ltb (2 ^ (m + 1) - 1) mecid l)) w n))
 
 -- and only then
 pub update-only : (s : Record) (m mecid : ℕ) → (update_of s m mecid).answer.code ≡ Ok →

@@ -1,11 +1,11 @@
 -- Features and key update, return by return, and the answer of a refusal. Assumes nothing.
 use Prim.Native.Nat.{ℕ, ◌+◌, ◌-◌, ◌*◌, ◌/◌, ◌^◌, min, ◌≤◌, ◌<◌}
-use mathlib.Core.Path.{◌≡◌}
-use mathlib.Core.Bool.{true, false}
+use mathlib.Core.Path.{◌≡◌, refl, sym}
+use mathlib.Core.Bool.{Bool, true, false, not}
 use native.Mathlib.Omega.{arith}
 use native.Mathlib.Nat.{div-lt_iff_lt-mul, le-div_iff_mul-le, pow-le-pow_right}
-use lib.Dec.{ltb, lit≤}
-use borrow.Author.Tests.{eq-eqb, ne_eqb, lt-ltb, le-ltb}
+use lib.Dec.{ltb, eqb, lit≤}
+use borrow.Author.Tests.{eq-eqb, ne_eqb, eqb-true, eqb-false, lt-ltb, le-ltb}
 use Rattle.words.specs.Tests.{either}
 use Rattle.boot.specs.declared.Record.{Record}
 use Rattle.codes.specs.Codes.{is_up, boot_params, is_false, fails, when_up, is_ok, answer_of}
@@ -19,18 +19,25 @@ use Rattle.features.specs.declared.UpdateResult.{UpdateResult}
 two_pos : (k : ℕ) → 0 < 2 ^ k
 two_pos k = pow-le-pow_right (lit≤ tt) {i = 0} (omega arith)
 
-pub bits_in : (k x : ℕ) → x / 2 ^ k ≡ 0 → ltb (2 ^ k - 1) x ≡ false
+bits_in : (k x : ℕ) → x / 2 ^ k ≡ 0 → ltb (2 ^ k - 1) x ≡ false
 bits_in k x h =
     let p = two_pos k in
     let q : x < 1 * 2 ^ k = (div-lt_iff_lt-mul p).0 (omega arith) in
     le-ltb (2 ^ k - 1) x (omega arith)
 
-pub bits_out : (k x : ℕ) → (x / 2 ^ k ≡ 0 → ⊥) → ltb (2 ^ k - 1) x ≡ true
+bits_out : (k x : ℕ) → (x / 2 ^ k ≡ 0 → ⊥) → ltb (2 ^ k - 1) x ≡ true
 bits_out k x h =
     let p = two_pos k in
     let n : 1 ≤ x / 2 ^ k = omega arith in
     let q : 1 * 2 ^ k ≤ x = (le-div_iff_mul-le p).0 n in
     lt-ltb (2 ^ k - 1) x (omega arith)
+
+pub bits-above : (k x : ℕ) → not (eqb (x / 2 ^ k) 0) ≡ ltb (2 ^ k - 1) x
+bits-above k x = go (eqb (x / 2 ^ k) 0) refl
+  where
+    go : (b : Bool) → eqb (x / 2 ^ k) 0 ≡ b → not b ≡ ltb (2 ^ k - 1) x
+    go true e = sym (bits_in k x (eqb-true _ _ e))
+    go false e = sym (bits_out k x (eqb-false _ _ e))
 
 -- ---- features
 pub features-by : (k c : Code) → k ≡ c → is_ok c ≡ false → answer_of c 0 0 ≡ features_by k
@@ -52,9 +59,13 @@ module _ (s : Record) (index : ℕ) where
       unfolding when_up features_code fails is_false
       features-minor l = rw (h, eq-eqb index 0 i, lt-ltb (boot_params s).minor 4 l)
 
-      pub features-ok : 4 ≤ (boot_params s).minor → answer_of Ok 1 0 ≡ features_of s index
-      unfolding features_of features_by when_up features_code fails is_false
-      features-ok l = rw (h, eq-eqb index 0 i, le-ltb (boot_params s).minor 4 l)
+      pub features-pass : 4 ≤ (boot_params s).minor → when_up s (features_code (boot_params s) index) ≡ Ok
+      unfolding when_up features_code fails is_false
+      features-pass l = rw (h, eq-eqb index 0 i, le-ltb (boot_params s).minor 4 l)
+
+  pub features-ok : when_up s (features_code (boot_params s) index) ≡ Ok → answer_of Ok 1 0 ≡ features_of s index
+  unfolding features_of features_by
+  features-ok e = rw e
 
 -- a refused call has zeros in x1 and x2
 pub features-refused : (s : Record) (index : ℕ) → is_ok (features_of s index).code ≡ false →
@@ -63,10 +74,10 @@ unfolding features_of features_by answer_of
 features-refused s index h = rw h
 
 -- ---- key update
-pub update-by : (k c : Code) (mecid : ℕ) (u : UpdateResult) → u.answer ≡ answer_of c 0 0 → u.work ≡ Nothing → k ≡ c → is_ok c ≡ false →
-    u ≡ update_by k mecid
+pub update-by : (k c : Code) (mecid : ℕ) → k ≡ c → is_ok c ≡ false →
+    ◌≡◌ {A = UpdateResult} (record { answer = answer_of c 0 0; work = Nothing }) (update_by k mecid)
 unfolding update_by
-update-by k c mecid u a w e h = rw (e, h, ← a, ← w)
+update-by k c mecid e h = rw (e, h)
 
 module _ (s : Record) (m mecid : ℕ) where
   pub update-down : is_up s ≡ false → when_up s (update_code (boot_params s) m mecid) ≡ Unk
@@ -93,9 +104,14 @@ module _ (s : Record) (m mecid : ℕ) where
           unfolding when_up update_code fails is_false either
           update-minor n = rw (h, le-ltb 65535 mecid l, b, le-ltb 15 m w, lt-ltb (boot_params s).minor 5 n)
 
-          pub update-ok : 5 ≤ (boot_params s).minor → ◌≡◌ {A = UpdateResult} (record { answer = answer_of Ok 0 0; work = Reprogram mecid }) (update_of s m mecid)
-          unfolding update_of update_by when_up update_code fails is_false either
-          update-ok n = rw (h, le-ltb 65535 mecid l, b, le-ltb 15 m w, le-ltb (boot_params s).minor 5 n)
+          pub update-pass : 5 ≤ (boot_params s).minor → when_up s (update_code (boot_params s) m mecid) ≡ Ok
+          unfolding when_up update_code fails is_false either
+          update-pass n = rw (h, le-ltb 65535 mecid l, b, le-ltb 15 m w, le-ltb (boot_params s).minor 5 n)
+
+  pub update-ok : when_up s (update_code (boot_params s) m mecid) ≡ Ok →
+      ◌≡◌ {A = UpdateResult} (record { answer = answer_of Ok 0 0; work = Reprogram mecid }) (update_of s m mecid)
+  unfolding update_of update_by
+  update-ok e = rw e
 
 -- a refused call has zeros in x1 and x2, and leaves nothing for the platform to do
 pub update-refused : (s : Record) (m mecid : ℕ) → is_ok (update_of s m mecid).answer.code ≡ false →

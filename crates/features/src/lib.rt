@@ -2,8 +2,8 @@
 #![tactic(auto)]
 
 ghost use Rattle.std.specs.Prelude.{◌≡◌, ltb, ◌+◌, ◌-◌, ◌^◌, ◌≤◌};
-ghost use Rattle.features.specs.Features.{features_of, update_of, forward_of};
-ghost use Rattle.codes.specs.Codes.{answer_of};
+ghost use Rattle.codes.specs.Codes.{boot_params, when_up, gated};
+ghost use Rattle.features.specs.Features.{features_code, features_of, update_code, update_of, forward_of};
 
 use boot::Record;
 use codes::{Answer, Code, Work};
@@ -30,21 +30,28 @@ pub struct UpdateResult {
     pub work: Work,
 }
 
+// Runs the checks of features (CM6.2, CM6.3).
+fn features_checks(state: Record, index: u64) -> Result<(), Code>
+    ensures { result ≡ gated (when_up state (features_code (boot_params state) index)) tt }
+{
+    let params = codes::up_params(state)?;
+    if index != FEATURES_INDEX {
+        return Err(Code::Inval);
+    }
+    if params.minor < SIGNING_MINOR {
+        return Err(Code::Unk);
+    }
+    Ok(())
+}
+
 // 0xC40001B4 (CM6): returns feature register `index` in x1. Register 0 is 1: token signing is present.
 pub fn features(state: Record, index: u64) -> Answer
     ensures { result ≡ features_of state index }
 {
-    if !codes::is_up(state) {
-        return codes::answer_with(Code::Unk, 0, 0);
+    match features_checks(state, index) {
+        Ok(()) => Answer::ok(FEATURE_TOKEN_SIGNING, 0),
+        Err(code) => Answer::refused(code),
     }
-    if index != FEATURES_INDEX {
-        return codes::answer_with(Code::Inval, 0, 0);
-    }
-    let params = codes::boot_params(state);
-    if params.minor < SIGNING_MINOR {
-        return codes::answer_with(Code::Unk, 0, 0);
-    }
-    codes::answer_with(Code::Ok, FEATURE_TOKEN_SIGNING, 0)
 }
 
 // Whether `mecid` does not fit `bits` bits.
@@ -52,45 +59,42 @@ fn is_above(mecid: u64, bits: u64) -> bool
     requires { bits ≤ 16 }
     ensures { result ≡ ltb (2 ^ bits - 1) mecid }
 {
-    if mecid >> bits == 0 {
-        return false;
-    }
-    true
+    mecid >> bits != 0
 }
 
-// Refuses an update with `code`.
-fn refused(code: Code) -> UpdateResult
-    ensures { (result.answer ≡ answer_of code 0 0) × (result.work ≡ Work.Nothing) }
+// Runs the checks of a key update (CM8.2, CM8.3).
+fn update_checks(state: Record, width: u64, mecid: u64) -> Result<(), Code>
+    ensures { result ≡ gated (when_up state (update_code (boot_params state) width mecid)) tt }
 {
-    UpdateResult {
-        answer: codes::answer_with(code, 0, 0),
-        work: Work::Nothing,
+    let params = codes::up_params(state)?;
+    if MECID_MOST < mecid {
+        return Err(Code::Inval);
     }
+    if is_above(mecid, words::smaller(width, WIDTH_MOST) + 1) {
+        return Err(Code::Inval);
+    }
+    if WIDTH_MOST < width {
+        return Err(Code::Unk);
+    }
+    if params.minor < KEY_UPDATE_MINOR {
+        return Err(Code::Unk);
+    }
+    Ok(())
 }
 
 // 0xC40001B6 (CM8): returns the mecid to reprogram; `width` is MECIDWidthm1.
 pub fn key_update(state: Record, width: u64, mecid: u64) -> UpdateResult
     ensures { result ≡ update_of state width mecid }
 {
-    if !codes::is_up(state) {
-        return refused(Code::Unk);
-    }
-    if MECID_MOST < mecid {
-        return refused(Code::Inval);
-    }
-    if is_above(mecid, words::smaller(width, WIDTH_MOST) + 1) {
-        return refused(Code::Inval);
-    }
-    if WIDTH_MOST < width {
-        return refused(Code::Unk);
-    }
-    let params = codes::boot_params(state);
-    if params.minor < KEY_UPDATE_MINOR {
-        return refused(Code::Unk);
-    }
-    UpdateResult {
-        answer: codes::answer_with(Code::Ok, 0, 0),
-        work: Work::Reprogram(mecid),
+    match update_checks(state, width, mecid) {
+        Ok(()) => UpdateResult {
+            answer: Answer::ok(0, 0),
+            work: Work::Reprogram(mecid),
+        },
+        Err(code) => UpdateResult {
+            answer: Answer::refused(code),
+            work: Work::Nothing,
+        },
     }
 }
 

@@ -12,12 +12,11 @@ use Rattle.boot.specs.declared.Record.{Record}
 use Rattle.buffer_check.specs.Range.{place_of, page_code}
 use Rattle.buffer_check.specs.declared.OutsideAs.TheVariants.{Invalid}
 use Rattle.buffer_check.proofs.Ranges.{Passed, passed}
-use Rattle.codes.specs.Codes.{boot_params, fails, and_then, is_ok, answer_of, gated}
+use Rattle.codes.specs.Codes.{is_up, boot_params, fails, and_then, is_ok, answer_of, gated}
 use Rattle.codes.proofs.Gates.{first-ok, then-stop, went, stood, stops, goes, if-ok-by}
 use Rattle.codes.specs.declared.Code.{Code}
 use Rattle.codes.specs.declared.Code.TheVariants.{Ok, Unk, Inval, Again}
-use Rattle.codes.specs.declared.Gate.{Gate}
-use Rattle.codes.specs.declared.Gate.TheVariants.{Stop, Go}
+use Rattle.std.specs.Prelude.{Result, Err, Ok as Go}
 use Rattle.queue.specs.declared.Queue.{Queue}
 use Rattle.queue.specs.Queue.{Lists, SigningStep, SigningExit, queued, oldest_response, lists_of, exit_of}
 use Rattle.queue.proofs.Steps.{goes_on}
@@ -60,26 +59,31 @@ module _ (r : Record) (len : ℕ) (o : Opcode) (pa size curve : ℕ) where
 
 -- the gate of those checks, return by return, from the results of the functions that it calls
 module _ (r : Record) (len : ℕ) (o : Opcode) (pa size curve : ℕ) (t : Bool) (ct : t ≡ is_other o) (k : Code) (ck : k ≡ fails t Inval Ok)
-    (g : Gate) (cg : g ≡ gated (page_code r len k Invalid pa size) (place_of (boot_params r) pa)) where
+    (g : Result ℕ Code) (cg : g ≡ gated (page_code r len k Invalid pa size) (place_of (boot_params r) pa)) where
   page-gated : gated (page_code r len (fails (is_other o) Inval Ok) Invalid pa size) (place_of (boot_params r) pa) ≡ g
   page-gated = rw (← ct, ← ck) (sym cg)
 
-  pub gate-stop : (j : Code) → g ≡ Stop j → g ≡ gated (shared_code r len o pa size curve) (place_of (boot_params r) pa)
+  pub gate-stop : (j : Code) → g ≡ Err j → g ≡ gated (shared_code r len o pa size curve) (place_of (boot_params r) pa)
   gate-stop j h =
       let p = stood (page_code r len (fails (is_other o) Inval Ok) Invalid pa size) (place_of (boot_params r) pa) j (page-gated ∙ h) in
       h ∙ stops (shared_code r len o pa size curve) (place_of (boot_params r) pa) j (shared-stop r len o pa size curve j p.0 p.1) p.1
+
+  pub gate-up : (at : ℕ) → g ≡ Go at → is_up r ≡ false → ⊥
+  gate-up at h d =
+      let p = went (page_code r len (fails (is_other o) Inval Ok) Invalid pa size) (place_of (boot_params r) pa) at (page-gated ∙ h) in
+      true≢false (sym (passed r len (fails (is_other o) Inval Ok) Invalid pa size p.0).up ∙ d)
 
   module _ (at : ℕ) (h : g ≡ Go at) (b : Bool) (cb : b ≡ bad_curve o curve) where
     page-went : (page_code r len (fails (is_other o) Inval Ok) Invalid pa size ≡ Ok) × (at ≡ place_of (boot_params r) pa)
     page-went = went (page_code r len (fails (is_other o) Inval Ok) Invalid pa size) (place_of (boot_params r) pa) at (page-gated ∙ h)
 
-    pub gate-curve : b ≡ true → Stop Inval ≡ gated (shared_code r len o pa size curve) (place_of (boot_params r) pa)
+    pub gate-curve : b ≡ true → Err Inval ≡ gated (shared_code r len o pa size curve) (place_of (boot_params r) pa)
     gate-curve y =
         stops (shared_code r len o pa size curve) (place_of (boot_params r) pa) Inval
         (shared-curve r len o pa size curve page-went.0 (sym cb ∙ y)) refl
 
     module _ (n : b ≡ false) (u : Params) (cu : u ≡ boot_params r) where
-      pub gate-minor : u.minor < 4 → Stop Unk ≡ gated (shared_code r len o pa size curve) (place_of (boot_params r) pa)
+      pub gate-minor : u.minor < 4 → Err Unk ≡ gated (shared_code r len o pa size curve) (place_of (boot_params r) pa)
       gate-minor m =
           stops (shared_code r len o pa size curve) (place_of (boot_params r) pa) Unk
           (shared-minor r len o pa size curve page-went.0 (sym cb ∙ n) (rw (← cu) m)) refl
@@ -90,9 +94,9 @@ module _ (r : Record) (len : ℕ) (o : Opcode) (pa size curve : ℕ) (t : Bool) 
           (shared-ok r len o pa size curve page-went.0 (sym cb ∙ n) (rw (← cu) m)) page-went.1
 
 -- ---- a call, from its opcode and gate
-module _ (r : Record) (page : List ℕ) (op pa size curve : ℕ) (g : Gate)
+module _ (r : Record) (page : List ℕ) (op pa size curve : ℕ) (g : Result ℕ Code)
     (cg : g ≡ gated (shared_code r (length page) (opcode_of op) pa size curve) (place_of (boot_params r) pa)) where
-  pub told-stop : (j : Code) → g ≡ Stop j → (shared_code r (length page) (opcode_of op) pa size curve ≡ j) × (is_ok j ≡ false)
+  pub told-stop : (j : Code) → g ≡ Err j → (shared_code r (length page) (opcode_of op) pa size curve ≡ j) × (is_ok j ≡ false)
   told-stop j h = stood (shared_code r (length page) (opcode_of op) pa size curve) (place_of (boot_params r) pa) j (sym cg ∙ h)
 
   module _ (at : ℕ) (h : g ≡ Go at) where

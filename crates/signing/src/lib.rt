@@ -12,7 +12,7 @@ ghost use Rattle.signing.specs.Steps.{op_on};
 
 use boot::Record;
 use buffer_check::OutsideAs;
-use codes::{Answer, Code, Gate};
+use codes::{Answer, Code};
 use queue::{Queue, QueueResult};
 
 // The opcode of a token signing call.
@@ -65,22 +65,26 @@ fn bad_curve(opcode: u64, curve: u64) -> bool
 }
 
 // Runs the checks that all opcodes share; returns the buffer's offset in the page.
-fn common_checks(state: Record, len: usize, opcode: u64, pa: u64, size: u64, curve: u64) -> Gate
+fn common_checks(
+    state: Record,
+    len: usize,
+    opcode: u64,
+    pa: u64,
+    size: u64,
+    curve: u64,
+) -> Result<usize, Code>
     ensures { result ≡ gated (shared_code state len (opcode_of opcode) pa size curve) (place_of (boot_params state) pa) }
 {
     let first = codes::code_if(is_other(opcode), Code::Inval);
-    let gate = buffer_check::page_gate(state, len, first, OutsideAs::Invalid, pa, size);
-    let Gate::Go(at) = gate else {
-        return gate;
-    };
+    let at = buffer_check::page_gate(state, len, first, OutsideAs::Invalid, pa, size)?;
     if bad_curve(opcode, curve) {
-        return Gate::Stop(Code::Inval);
+        return Err(Code::Inval);
     }
-    let params = codes::boot_params(state);
+    let params = codes::up_params(state)?;
     if params.minor < 4 {
-        return Gate::Stop(Code::Unk);
+        return Err(Code::Unk);
     }
-    Gate::Go(at)
+    Ok(at)
 }
 
 // Key: writes the public key that the platform lends into the buffer; x1 is its length. The queue plays no part.
@@ -88,13 +92,13 @@ fn put_key(buffer: &mut [u8], key: &[u8]) -> Answer
     ensures { (q : Lists) → ◌≡◌ {A = SigningStep} (record { answer = result; page = buffer.new; queue = q }) (public_of buffer.old q key.now) }
 {
     if key.len() == 0 {
-        return codes::answer_with(Code::Again, 0, 0);
+        return Answer::refused(Code::Again);
     }
     if buffer.len() < key.len() {
-        return codes::answer_with(Code::Inval, 0, 0);
+        return Answer::refused(Code::Inval);
     }
     words::copy(buffer, key);
-    codes::answer_with(Code::Ok, key.len() as u64, 0)
+    Answer::ok(key.len() as u64, 0)
 }
 
 // Key, with the queue by value.
@@ -102,8 +106,7 @@ fn public_key(buffer: &mut [u8], queue: Queue, key: &[u8]) -> QueueResult
     ensures { signing_exit result buffer.new ≡ exit_of queue (public_of buffer.old (lists_of queue) key.now) }
 {
     let answer = put_key(buffer, key);
-    let code = answer.code;
-    if !codes::is_ok(code) {
+    if answer.code != Code::Ok {
         return QueueResult { answer, queue };
     }
     QueueResult {
@@ -147,10 +150,9 @@ pub fn token_signing(
     ensures { signing_exit result page.new
         ≡ exit_of queue (signing_of state page.old (lists_of queue) key.now opcode pa size curve) }
 {
-    let gate = common_checks(state, page.len(), opcode, pa, size, curve);
-    match gate {
-        Gate::Stop(code) => queue::refused(code, queue),
-        Gate::Go(at) => serve(page, at, size, queue, key, opcode_of(opcode)),
+    match common_checks(state, page.len(), opcode, pa, size, curve) {
+        Ok(at) => serve(page, at, size, queue, key, opcode_of(opcode)),
+        Err(code) => queue::refused(code, queue),
     }
 }
 
@@ -172,7 +174,7 @@ fn serve_image(
         Opcode::Push => requests::push_image(&page[at..end], image),
         Opcode::Pull => responses::pull_image(&mut page[at..end], image),
         Opcode::Key => put_key(&mut page[at..end], key),
-        Opcode::Other => codes::answer_with(Code::Inval, 0, 0),
+        Opcode::Other => Answer::refused(Code::Inval),
     }
 }
 
@@ -190,9 +192,8 @@ pub fn token_signing_image(
     ensures { ◌≡◌ {A = ImageStep} (record { answer = result; page = page.new; image = image.new })
         (signing_on state page.old image.old key.now opcode pa size curve) }
 {
-    let gate = common_checks(state, page.len(), opcode, pa, size, curve);
-    match gate {
-        Gate::Stop(code) => codes::answer_with(code, 0, 0),
-        Gate::Go(at) => serve_image(page, at, size, image, key, opcode_of(opcode)),
+    match common_checks(state, page.len(), opcode, pa, size, curve) {
+        Ok(at) => serve_image(page, at, size, image, key, opcode_of(opcode)),
+        Err(code) => Answer::refused(code),
     }
 }

@@ -14,8 +14,7 @@ use Rattle.codes.specs.Codes.{boot_params, fails, is_ok, answer_of, gated}
 use Rattle.codes.specs.declared.Answer.{Answer}
 use Rattle.codes.specs.declared.Code.{Code}
 use Rattle.codes.specs.declared.Code.TheVariants.{Ok, Inval, Again}
-use Rattle.codes.specs.declared.Gate.{Gate}
-use Rattle.codes.specs.declared.Gate.TheVariants.{Stop, Go}
+use Rattle.std.specs.Prelude.{Result, Err, Ok as Go}
 use Rattle.codes.proofs.Gates.{went, stood, stops, goes, then-stop, then-go}
 use Rattle.token_rules.specs.declared.Session.{Session}
 use Rattle.token_rules.specs.Token.{listed, csize_code, buffer_code, start_code, token_code, begin_of, TokenStep, send_of, token_of, challenge_of}
@@ -24,12 +23,12 @@ use Rattle.token_rules.proofs.Tokens.{csize-unlisted, csize-small, csize-ok, buf
 use Rattle.token_rules.proofs.Tokens.{challenge-none, challenge-shown, challenge-starts}
 
 -- ---- the buffer, from the gate of the common checks, with the platform's code before it
-module _ (r : Record) (len : ℕ) (busy : Bool) (pa size csize : ℕ) (f : Code) (cf : f ≡ fails busy Again Ok) (g : Gate)
+module _ (r : Record) (len : ℕ) (busy : Bool) (pa size csize : ℕ) (f : Code) (cf : f ≡ fails busy Again Ok) (g : Result ℕ Code)
     (cg : g ≡ gated (page_code r len f BadAddress pa size) (place_of (boot_params r) pa)) where
   is-page : g ≡ gated (page_code r len (fails busy Again Ok) BadAddress pa size) (place_of (boot_params r) pa)
   is-page = cg ∙ rw cf
 
-  pub told-outside : (c : Code) → g ≡ Stop c → g ≡ gated (buffer_code r len busy pa size csize) (place_of (boot_params r) pa)
+  pub told-outside : (c : Code) → g ≡ Err c → g ≡ gated (buffer_code r len busy pa size csize) (place_of (boot_params r) pa)
   unfolding buffer_code
   told-outside c h =
       let p = stood (page_code r len (fails busy Again Ok) BadAddress pa size) (place_of (boot_params r) pa) c (sym is-page ∙ h) in
@@ -45,13 +44,13 @@ module _ (r : Record) (len : ℕ) (busy : Bool) (pa size csize : ℕ) (f : Code)
     is-csize = then-go (page_code r len (fails busy Again Ok) BadAddress pa size) (csize_code size csize) page-went.0
 
     module _ (l : Bool) (cl : l ≡ listed csize) where
-      pub told-unlisted : l ≡ false → Stop Inval ≡ gated (buffer_code r len busy pa size csize) (place_of (boot_params r) pa)
+      pub told-unlisted : l ≡ false → Err Inval ≡ gated (buffer_code r len busy pa size csize) (place_of (boot_params r) pa)
       told-unlisted n =
           stops (buffer_code r len busy pa size csize) (place_of (boot_params r) pa) Inval
           (is-csize ∙ csize-unlisted size csize (sym cl ∙ n)) refl
 
       module _ (y : l ≡ true) where
-        pub told-small : size < csize → Stop Inval ≡ gated (buffer_code r len busy pa size csize) (place_of (boot_params r) pa)
+        pub told-small : size < csize → Err Inval ≡ gated (buffer_code r len busy pa size csize) (place_of (boot_params r) pa)
         told-small b =
             stops (buffer_code r len busy pa size csize) (place_of (boot_params r) pa) Inval
             (is-csize ∙ csize-small size csize (sym cl ∙ y) b) refl
@@ -62,7 +61,7 @@ module _ (r : Record) (len : ℕ) (busy : Bool) (pa size csize : ℕ) (f : Code)
             page-went.1
 
 -- ---- the call, from the gates of its buffer and of its start
-module _ (r : Record) (page : List ℕ) (s : Session) (busy : Bool) (token : List ℕ) (pa size csize : ℕ) (g : Gate)
+module _ (r : Record) (page : List ℕ) (s : Session) (busy : Bool) (token : List ℕ) (pa size csize : ℕ) (g : Result ℕ Code)
     (cg : g ≡ gated (buffer_code r (length page) busy pa size csize) (place_of (boot_params r) pa)) where
   left_by : (c : Code) → token_code r page s busy token pa size csize ≡ c → is_ok c ≡ false → (a : Answer) → a ≡ answer_of c 0 0 →
       (t : Session) → t ≡ s →
@@ -72,7 +71,7 @@ module _ (r : Record) (page : List ℕ) (s : Session) (busy : Bool) (token : Lis
       stays (token_code r page s busy token pa size csize) (send_of (place_of (boot_params r) pa) token (begin_of s csize) size page) page s c
       a t ca ct e o
 
-  pub told-stop : (c : Code) → g ≡ Stop c → (a : Answer) → a ≡ answer_of c 0 0 → (t : Session) → t ≡ s → ◌≡◌ {A = TokenStep}
+  pub told-stop : (c : Code) → g ≡ Err c → (a : Answer) → a ≡ answer_of c 0 0 → (t : Session) → t ≡ s → ◌≡◌ {A = TokenStep}
       (record { answer = a; page = page; session = t }) (token_of r page s busy token pa size csize)
   told-stop c h a ca t ct =
       let p = stood (buffer_code r (length page) busy pa size csize) (place_of (boot_params r) pa) c (sym cg ∙ h) in
@@ -87,8 +86,8 @@ module _ (r : Record) (page : List ℕ) (s : Session) (busy : Bool) (token : Lis
         let m = buffer-room r (length page) busy pa size csize buffer-went.0 in
         omega (arith, buffer-went.1, m.whole, m.room)
 
-    module _ (b : Gate) (cb : b ≡ gated (start_code s csize (length token)) (begin_of s csize)) where
-      pub told-start : (c : Code) → b ≡ Stop c → (a : Answer) → a ≡ answer_of c 0 0 → (t : Session) → t ≡ s → ◌≡◌ {A = TokenStep}
+    module _ (b : Result ℕ Code) (cb : b ≡ gated (start_code s csize (length token)) (begin_of s csize)) where
+      pub told-start : (c : Code) → b ≡ Err c → (a : Answer) → a ≡ answer_of c 0 0 → (t : Session) → t ≡ s → ◌≡◌ {A = TokenStep}
           (record { answer = a; page = page; session = t }) (token_of r page s busy token pa size csize)
       told-start c k a ca t ct =
           let p = stood (start_code s csize (length token)) (begin_of s csize) c (sym cb ∙ k) in
@@ -105,8 +104,8 @@ module _ (r : Record) (page : List ℕ) (s : Session) (busy : Bool) (token : Lis
 
 -- ---- the challenge, from its buffer's gate, and as a part of the page from its place
 module _ (r : Record) (page : List ℕ) (pa size csize : ℕ) where
-  module _ (g : Gate) (cg : g ≡ gated (buffer_code r (length page) false pa size csize) (place_of (boot_params r) pa)) where
-    pub told_none : (c : Code) → g ≡ Stop c → (no_span ≡ challenge_span r page pa size csize) ×
+  module _ (g : Result ℕ Code) (cg : g ≡ gated (buffer_code r (length page) false pa size csize) (place_of (boot_params r) pa)) where
+    pub told_none : (c : Code) → g ≡ Err c → (no_span ≡ challenge_span r page pa size csize) ×
         (spanned no_span page ≡ challenge_of r page pa size csize)
     told_none c h =
         let p = stood (buffer_code r (length page) false pa size csize) (place_of (boot_params r) pa) c (sym cg ∙ h) in

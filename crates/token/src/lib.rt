@@ -10,7 +10,7 @@ ghost use Rattle.token_rules.specs.Token.{challenge_of, challenge_span, challeng
 
 use boot::Record;
 use buffer_check::OutsideAs;
-use codes::{Code, Gate};
+use codes::{Answer, Code};
 pub use token_rules::{Session, TokenResult};
 use words::Span;
 
@@ -27,54 +27,55 @@ const CHALLENGE_SHA512: u64 = 64;
 fn is_listed(csize: u64) -> bool
     ensures { result ≡ listed csize }
 {
-    match csize {
-        CHALLENGE_NONE => true,
-        CHALLENGE_SHA256 => true,
-        CHALLENGE_SHA384 => true,
-        CHALLENGE_SHA512 => true,
-        _ => false,
-    }
+    matches!(
+        csize,
+        CHALLENGE_NONE | CHALLENGE_SHA256 | CHALLENGE_SHA384 | CHALLENGE_SHA512
+    )
 }
 
 // Checks the record, the page's length `len`, `busy`, the buffer of `size` bytes at `pa`, then `csize` (RT6, RT7, CM5.2 to CM5.6). Returns
 // the buffer's offset in the page, or the code of the first check that fails.
-fn buffer_of(state: Record, len: usize, busy: bool, pa: u64, size: u64, csize: u64) -> Gate
+fn buffer_of(
+    state: Record,
+    len: usize,
+    busy: bool,
+    pa: u64,
+    size: u64,
+    csize: u64,
+) -> Result<usize, Code>
     ensures { result ≡ gated (buffer_code state len busy pa size csize) (place_of (boot_params state) pa) }
 {
     let first = codes::code_if(busy, Code::Again);
-    let gate = buffer_check::page_gate(state, len, first, OutsideAs::BadAddress, pa, size);
-    let Gate::Go(at) = gate else {
-        return gate;
-    };
+    let at = buffer_check::page_gate(state, len, first, OutsideAs::BadAddress, pa, size)?;
     if !is_listed(csize) {
-        return Gate::Stop(Code::Inval);
+        return Err(Code::Inval);
     }
     if size < csize {
-        return Gate::Stop(Code::Inval);
+        return Err(Code::Inval);
     }
-    Gate::Go(at)
+    Ok(at)
 }
 
 // Checks session and token; returns the offset in the token at which the call starts.
-fn start_of(session: Session, csize: u64, len: usize) -> Gate
+fn start_of(session: Session, csize: u64, len: usize) -> Result<usize, Code>
     ensures { result ≡ gated (start_code session csize len) (begin_of session csize) }
 {
     if csize != 0 {
         if len == 0 {
-            return Gate::Stop(Code::Unk);
+            return Err(Code::Unk);
         }
-        return Gate::Go(0);
+        return Ok(0);
     }
     let Session::Sending { whole, sent } = session else {
-        return Gate::Stop(Code::Inval);
+        return Err(Code::Inval);
     };
     if len == 0 {
-        return Gate::Stop(Code::Unk);
+        return Err(Code::Unk);
     }
     if len as u64 != whole {
-        return Gate::Stop(Code::Unk);
+        return Err(Code::Unk);
     }
-    Gate::Go(sent as usize)
+    Ok(sent as usize)
 }
 
 // Copies `n` bytes of the token, from offset `from`, to offset `at` of the page.
@@ -94,7 +95,7 @@ fn send(page: &mut [u8], at: usize, token: &[u8], from: usize, size: u64) -> Tok
     let len = token.len();
     if len <= from {
         return TokenResult {
-            answer: codes::answer_with(Code::Ok, 0, 0),
+            answer: Answer::ok(0, 0),
             session: Session::idle(),
         };
     }
@@ -102,14 +103,14 @@ fn send(page: &mut [u8], at: usize, token: &[u8], from: usize, size: u64) -> Tok
     if left as u64 <= size {
         put_hunk(page, at, token, from, left);
         return TokenResult {
-            answer: codes::answer_with(Code::Ok, left as u64, 0),
+            answer: Answer::ok(left as u64, 0),
             session: Session::idle(),
         };
     }
     let n = size as usize;
     put_hunk(page, at, token, from, n);
     TokenResult {
-        answer: codes::answer_with(Code::Ok, size, (left - n) as u64),
+        answer: Answer::ok(size, (left - n) as u64),
         session: Session::Sending {
             whole: len as u64,
             sent: (from + n) as u64,
@@ -122,7 +123,7 @@ fn refused(code: Code, session: Session) -> TokenResult
     ensures { (result.answer ≡ answer_of code 0 0) × (result.session ≡ session) }
 {
     TokenResult {
-        answer: codes::answer_with(code, 0, 0),
+        answer: Answer::refused(code),
         session,
     }
 }
@@ -141,16 +142,13 @@ pub fn platform_token(
 ) -> TokenResult
     ensures { token_exit result page.new ≡ token_of state page.old session busy token.now pa size csize }
 {
-    let gate = buffer_of(state, page.len(), busy, pa, size, csize);
-    match gate {
-        Gate::Stop(code) => refused(code, session),
-        Gate::Go(at) => {
-            let start = start_of(session, csize, token.len());
-            match start {
-                Gate::Stop(code) => refused(code, session),
-                Gate::Go(from) => send(page, at, token, from, size),
-            }
-        }
+    let at = match buffer_of(state, page.len(), busy, pa, size, csize) {
+        Ok(at) => at,
+        Err(code) => return refused(code, session),
+    };
+    match start_of(session, csize, token.len()) {
+        Ok(from) => send(page, at, token, from, size),
+        Err(code) => refused(code, session),
     }
 }
 
@@ -159,8 +157,7 @@ pub fn challenge_place(state: Record, page: &[u8], pa: u64, size: u64, csize: u6
     ensures value { result ≡ challenge_span state page.now pa size csize }
     ensures page_value { spanned result page.now ≡ challenge_of state page.now pa size csize }
 {
-    let gate = buffer_of(state, page.len(), false, pa, size, csize);
-    let Gate::Go(at) = gate else {
+    let Ok(at) = buffer_of(state, page.len(), false, pa, size, csize) else {
         return Span { at: 0, len: 0 };
     };
     words::span_at(at, csize as usize)
@@ -171,10 +168,9 @@ pub fn challenge_code(state: Record, page: &[u8], pa: u64, size: u64, csize: u64
     ensures value { result ≡ buffer_code state (length page.now) false pa size csize }
     ensures result_value { number_of result ≡ challenge_number state (length page.now) pa size csize }
 {
-    let gate = buffer_of(state, page.len(), false, pa, size, csize);
-    match gate {
-        Gate::Stop(code) => code,
-        Gate::Go(_) => Code::Ok,
+    match buffer_of(state, page.len(), false, pa, size, csize) {
+        Ok(_) => Code::Ok,
+        Err(code) => code,
     }
 }
 

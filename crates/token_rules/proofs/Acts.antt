@@ -33,7 +33,7 @@ use Rattle.token_rules.specs.declared.Session.TheVariants.{Idle}
 use Rattle.token_rules.proofs.Tokens.{csize-ok}
 use Rattle.token_rules.proofs.Calls.{code_ok}
 
-listed-size : (c : ℕ) → (c ≡ 0) ⊎ ChallengeSize c → listed c ≡ true
+pub listed-size : (c : ℕ) → (c ≡ 0) ⊎ ChallengeSize c → listed c ≡ true
 unfolding listed either
 listed-size c (inl e) = ap listed e
 listed-size c (inr (inl e)) = ap listed e

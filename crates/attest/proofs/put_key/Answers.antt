@@ -10,26 +10,26 @@ use Rattle.attest.proofs.put_key.Goals as goal
 pub returns-then-curve-ne0 : goal.returns-then-curve-ne0
 returns-then-curve-ne0 c =
     let a = c.args in
-    rw c.answer_with.ensures (stays (key_rest a.size a.curve a.key.now) a.at a.page.now a.key.now Inval
+    rw c.refused.ensures (stays (key_rest a.size a.curve a.key.now) a.at a.page.now a.key.now Inval
     (rest-curve a.size a.curve a.key.now (search rules)) refl)
 
 pub returns-then-key-eq0 : goal.returns-then-key-eq0
 returns-then-key-eq0 c =
     let a = c.args in
-    rw c.answer_with-then-key-eq0.ensures (stays (key_rest a.size a.curve a.key.now) a.at a.page.now a.key.now Unk
+    rw c.refused-then-key-eq0.ensures (stays (key_rest a.size a.curve a.key.now) a.at a.page.now a.key.now Unk
     (rest-empty a.size a.curve a.key.now (search rules) (search rules)) refl)
 
 pub returns-then-size-key : goal.returns-then-size-key
 returns-then-size-key c =
     let a = c.args in
-    rw c.answer_with-then-size-key.ensures (stays (key_rest a.size a.curve a.key.now) a.at a.page.now a.key.now Unk
+    rw c.refused-then-size-key.ensures (stays (key_rest a.size a.curve a.key.now) a.at a.page.now a.key.now Unk
     (rest-long a.size a.curve a.key.now (search rules) c.if-key-eq0.false (search rules)) refl)
 
 pub returns : goal.returns
 returns c =
     let a = c.args in
     rw (
-      c.answer_with-2.ensures,
+      c.ok.ensures,
       c.copy.ensures,
       lent_back a.at a.key.now a.page.now (omega arith),
       bytes-in a.at a.key.now a.page.now (omega arith),

@@ -9,21 +9,21 @@ use Rattle.buffer_check.proofs.range_gate.Goals as goal
 pub returns-then-pa-base : goal.returns-then-pa-base
 returns-then-pa-base c =
     let a = c.args in
-    rw c.outside_code.ensures
+    rw c.into.ensures
     (stops (range_code a.params a.out a.pa a.size) (place_of a.params a.pa) (outside_code a.out)
     (range-below a.params a.out a.pa a.size (omega arith)) (outside-refused a.out))
 
 pub returns-then-at-params : goal.returns-then-at-params
 returns-then-at-params c =
     let a = c.args in
-    rw c.outside_code-then-at-params.ensures
+    rw c.into-then-at-params.ensures
     (stops (range_code a.params a.out a.pa a.size) (place_of a.params a.pa) (outside_code a.out)
     (range-below a.params a.out a.pa a.size (omega arith)) (outside-refused a.out))
 
 pub returns-then-at-ge-PAGE_SIZE : goal.returns-then-at-ge-PAGE_SIZE
 returns-then-at-ge-PAGE_SIZE c =
     let a = c.args in
-    rw c.outside_code-then-at-ge-PAGE_SIZE.ensures
+    rw c.into-then-at-ge-PAGE_SIZE.ensures
     (stops (range_code a.params a.out a.pa a.size) (place_of a.params a.pa) (outside_code a.out)
     (range-above a.params a.out a.pa a.size (omega arith) (omega arith)) (outside-refused a.out))
 

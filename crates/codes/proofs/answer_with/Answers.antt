@@ -3,4 +3,4 @@ use Rattle.codes.proofs.answer_with.Goals as goal
 
 pub returns : goal.returns
 unfolding answer_of
-returns c = rw c.x0.ensures
+returns c = rw c.from.ensures

@@ -2,10 +2,10 @@ use Rattle.codes.specs.Codes.{fails}
 use borrow.Author.Rules.{rules}
 use Rattle.codes.proofs.code_if.Goals as goal
 
-pub returns-then-test : goal.returns-then-test
+pub returns-then-test-clause-value : goal.returns-then-test-clause-value
 unfolding fails
-returns-then-test c = record { value = search rules; result_value = search rules }
+returns-then-test-clause-value c = search rules
 
-pub returns : goal.returns
+pub returns-else-test-clause-value : goal.returns-else-test-clause-value
 unfolding fails
-returns c = record { value = search rules; result_value = search rules }
+returns-else-test-clause-value c = search rules

@@ -1,10 +1,12 @@
 -- what is handed back with a queue, refused and accepted
 use Prim.Native.Nat.{ℕ}
-use mathlib.Core.Path.{◌≡◌, sym, ◌∙◌}
+use mathlib.Core.Path.{◌≡◌}
 use mathlib.Core.Bool.{true, false}
 use mathlib.Core.List.{List}
-use borrow.Author.Tests.{not-true, not-false}
+use borrow.Author.Rules.{rules}
 use Rattle.codes.specs.Codes.{is_ok}
+use Rattle.codes.specs.declared.Code.TheVariants.{Ok}
+use Rattle.codes.proofs.Gates.{ok-is, not_ok}
 use Rattle.codes.specs.declared.Answer.{Answer}
 use Rattle.queue.specs.declared.Queue.{Queue}
 use Rattle.queue.specs.Queue.{Lists, SigningStep, SigningExit, queue_holding, lists_of, queue_next, exit_of}
@@ -20,15 +22,14 @@ module _ (a : Answer) (page : List ℕ) (q : Lists) (old : Queue) (s : SigningSt
   unfolding exit_of queue_next
   holds h = rw (← e, h)
 
-pub returns-then-not-is_ok : goal.returns-then-not-is_ok
-returns-then-not-is_ok c =
+pub returns-then-ne : goal.returns-then-ne
+returns-then-ne c =
     let a = c.args in
-    stays _ _ (lists_of a.queue) a.queue _ (c.put_key-answer.ensures (lists_of a.queue))
-    (sym c.is_ok.ensures ∙ not-true c.is_ok.result c.if-not-is_ok.true-raw)
+    let n : c.put_key-answer.result.code ≡ Ok → ⊥ = search rules in
+    stays _ _ (lists_of a.queue) a.queue _ (c.put_key-answer.ensures (lists_of a.queue)) (not_ok _ n)
 
 pub returns : goal.returns
 returns c =
     let a = c.args in
-    rw c.clear_free.ensures (holds _ _ (lists_of a.queue) a.queue _
-    (c.put_key-answer.ensures (lists_of a.queue))
-    (sym c.is_ok.ensures ∙ not-false c.is_ok.result c.if-not-is_ok.false-raw))
+    let n : c.put_key-answer.result.code ≡ Ok = search rules in
+    rw c.clear_free.ensures (holds _ _ (lists_of a.queue) a.queue _ (c.put_key-answer.ensures (lists_of a.queue)) (ok-is _ n))

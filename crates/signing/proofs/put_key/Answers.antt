@@ -14,20 +14,20 @@ pub returns-then-key-eq0 : goal.returns-then-key-eq0
 unfolding public_of
 returns-then-key-eq0 c =
     let a = c.args in
-    λ q. rw c.answer_with.ensures (list-refuses (public_code (length a.buffer.now) a.key.now) _ a.buffer.now q Again
+    λ q. rw c.refused.ensures (list-refuses (public_code (length a.buffer.now) a.key.now) _ a.buffer.now q Again
     (public-empty (length a.buffer.now) a.key.now (search rules)) refl)
 
 pub returns-then-buffer-key : goal.returns-then-buffer-key
 unfolding public_of
 returns-then-buffer-key c =
     let a = c.args in
-    λ q. rw c.answer_with-then-buffer-key.ensures (list-refuses (public_code (length a.buffer.now) a.key.now) _ a.buffer.now q Inval
+    λ q. rw c.refused-then-buffer-key.ensures (list-refuses (public_code (length a.buffer.now) a.key.now) _ a.buffer.now q Inval
     (public-long (length a.buffer.now) a.key.now (search rules) (search rules)) refl)
 
 pub returns : goal.returns
 unfolding public_of
 returns c =
     let a = c.args in
-    λ q. rw (c.answer_with-2.ensures, c.copy.ensures, bytes-in 0 a.key.now a.buffer.now (omega arith))
+    λ q. rw (c.ok.ensures, c.copy.ensures, bytes-in 0 a.key.now a.buffer.now (omega arith))
     (goes_on (public_code (length a.buffer.now) a.key.now) a.buffer.now q _
     (public-ok (length a.buffer.now) a.key.now c.if-key-eq0.false (search rules)))

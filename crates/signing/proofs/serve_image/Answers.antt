@@ -42,5 +42,5 @@ pub returns-in-Other : goal.returns-in-Other
 unfolding part op_on op_at op_of image_done
 returns-in-Other c =
     let a = c.args in
-    rw (c.in-Other.is, c.answer_with.ensures)
+    rw (c.in-Other.is, c.refused.ensures)
     (put-same-on a.at a.size a.page.now _ _ _ _ a.image.now (search rules) (image-same _ _ a.image.now refl))

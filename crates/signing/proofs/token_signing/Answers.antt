@@ -1,3 +1,4 @@
+use mathlib.Core.Path.{refl}
 use lib.ListN.{length}
 use Rattle.codes.specs.Codes.{boot_params}
 use Rattle.buffer_check.specs.Range.{place_of}
@@ -11,22 +12,22 @@ pub serve-requires : goal.serve-requires
 serve-requires c =
     let a = c.args in
     told-room a.state a.page.now a.opcode a.pa a.size a.curve _
-    c.common_checks-gate.ensures _ c.in-Go.is
+    c.in-Ok.ensures _ refl
 
-pub returns-in-Stop : goal.returns-in-Stop
+pub returns-in-Err : goal.returns-in-Err
 unfolding signing_of
-returns-in-Stop c =
+returns-in-Err c =
     let a = c.args in
     let g = told-stop a.state a.page.now a.opcode a.pa a.size a.curve _
-    c.common_checks-gate.ensures _ c.in-Stop.is in
+    c.in-Err.ensures _ refl in
     refuses (shared_code a.state (length a.page.now) (opcode_of a.opcode) a.pa a.size a.curve) a.page.now
     (lists_of a.queue) a.queue (op_at (opcode_of a.opcode) (place_of (boot_params a.state) a.pa) a.size a.page.now
     (lists_of a.queue) a.key.now) _ _ c.refused.ensures g.0 g.1
 
-pub returns-in-Go : goal.returns-in-Go
-returns-in-Go c =
+pub returns-in-Ok : goal.returns-in-Ok
+returns-in-Ok c =
     let a = c.args in
     told-served a.state a.page.now a.opcode a.pa a.size a.curve _
-    c.common_checks-gate.ensures _
-    c.in-Go.is _ c.opcode_of.ensures a.queue
+    c.in-Ok.ensures _
+    refl _ c.opcode_of.ensures a.queue
     a.key.now _ c.serve.ensures

@@ -1,3 +1,4 @@
+use mathlib.Core.Path.{refl}
 use lib.ListN.{length}
 use Rattle.words.specs.Word.{part}
 use Rattle.codes.specs.Codes.{boot_params}
@@ -13,15 +14,15 @@ pub serve_image-requires : goal.serve_image-requires
 serve_image-requires c =
     let a = c.args in
     told-room a.state a.page.now a.opcode a.pa a.size a.curve _
-    c.common_checks-gate.ensures _ c.in-Go.is
+    c.in-Ok.ensures _ refl
 
-pub returns-in-Stop : goal.returns-in-Stop
+pub returns-in-Err : goal.returns-in-Err
 unfolding signing_on signing_done signing_of
-returns-in-Stop c =
+returns-in-Err c =
     let a = c.args in
     let g = told-stop a.state a.page.now a.opcode a.pa a.size a.curve _
-    c.common_checks-gate.ensures _ c.in-Stop.is in
-    rw (c.answer_with.ensures, ← g.0) (image-refuses (shared_code a.state (length a.page.now) (opcode_of a.opcode) a.pa
+    c.in-Err.ensures _ refl in
+    rw (c.refused.ensures, ← g.0) (image-refuses (shared_code a.state (length a.page.now) (opcode_of a.opcode) a.pa
     a.size
     a.curve) (op_at (opcode_of a.opcode) (place_of (boot_params a.state) a.pa) a.size a.page.now (lists_in a.image.now)
     a.key.now) a.page.now (lists_in a.image.now)
@@ -29,10 +30,10 @@ returns-in-Stop c =
     a.image.now
     (rw (← g.0) at g.1))
 
-pub returns-in-Go : goal.returns-in-Go
-returns-in-Go c =
+pub returns-in-Ok : goal.returns-in-Ok
+returns-in-Ok c =
     let a = c.args in
     told-served-on a.state a.page.now a.opcode a.pa a.size a.curve _
-    c.common_checks-gate.ensures _
-    c.in-Go.is _ c.opcode_of.ensures
+    c.in-Ok.ensures _
+    refl _ c.opcode_of.ensures
     a.image.now a.key.now _ c.serve_image.ensures

@@ -1,3 +1,4 @@
+use mathlib.Core.Path.{refl}
 use Rattle.token.proofs.Told.{told-stop, told-room, told-start, told-sent}
 use Rattle.token.proofs.platform_token.Goals as goal
 
@@ -5,29 +6,26 @@ pub send-requires : goal.send-requires
 send-requires c =
     let a = c.args in
     told-room a.state a.page.now a.session a.busy a.token.now a.pa a.size a.csize _
-    c.buffer_of-gate.ensures _
-    c.in-Go.is
+    c.in-Ok.ensures _ refl
 
-pub returns-in-Stop : goal.returns-in-Stop
-returns-in-Stop c =
+pub returns-in-Err : goal.returns-in-Err
+returns-in-Err c =
     let a = c.args in
     told-stop a.state a.page.now a.session a.busy a.token.now a.pa a.size a.csize _
-    c.buffer_of-gate.ensures _ c.in-Stop.is _ c.refused.ensures.0 _
+    c.in-Err.ensures _ refl _ c.refused.ensures.0 _
     c.refused.ensures.1
 
-pub returns-in-Stop-start : goal.returns-in-Stop-start
-returns-in-Stop-start c =
+pub returns-in-Err-start_of : goal.returns-in-Err-start_of
+returns-in-Err-start_of c =
     let a = c.args in
     told-start a.state a.page.now a.session a.busy a.token.now a.pa a.size a.csize _
-    c.buffer_of-gate.ensures _
-    c.in-Go.is _ c.start_of-start.ensures _
-    c.in-Stop-start.is _ c.refused-in-Stop-start.ensures.0 _ c.refused-in-Stop-start.ensures.1
+    c.in-Ok.ensures _ refl _ c.in-Err-start_of.ensures
+    _ refl _ c.refused-in-Err-start_of.ensures.0 _ c.refused-in-Err-start_of.ensures.1
 
-pub returns-in-Go-start : goal.returns-in-Go-start
-returns-in-Go-start c =
+pub returns-in-Ok-start_of : goal.returns-in-Ok-start_of
+returns-in-Ok-start_of c =
     let a = c.args in
     told-sent a.state a.page.now a.session a.busy a.token.now a.pa a.size a.csize _
-    c.buffer_of-gate.ensures _
-    c.in-Go.is _
-    c.start_of-start.ensures _
-    c.in-Go-start.is _ c.send.ensures
+    c.in-Ok.ensures _ refl
+    _ c.in-Ok-start_of.ensures
+    _ refl _ c.send.ensures

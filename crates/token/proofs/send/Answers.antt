@@ -6,17 +6,17 @@ use Rattle.token.proofs.send.Goals as goal
 pub returns-then-len-from : goal.returns-then-len-from
 returns-then-len-from c =
     let a = c.args in
-    rw (c.answer_with.ensures, c.idle.ensures)
+    rw (c.ok.ensures, c.idle.ensures)
     (sym (send-none a.at a.token.now a.from a.size a.page.now (search rules)))
 
 pub returns-then-left-size : goal.returns-then-left-size
 returns-then-left-size c =
     let a = c.args in
-    rw (c.answer_with-then-left-size.ensures, c.idle-then-left-size.ensures, c.put_hunk.ensures)
+    rw (c.ok-then-left-size.ensures, c.idle-then-left-size.ensures, c.put_hunk.ensures)
     (sym (send-last a.at a.token.now a.from a.size a.page.now (search rules)))
 
 pub returns : goal.returns
 returns c =
     let a = c.args in
-    rw (c.answer_with-2.ensures, c.put_hunk-2.ensures)
+    rw (c.ok-2.ensures, c.put_hunk-2.ensures)
     (sym (send-more a.at a.token.now a.from a.size a.page.now (search rules)))

@@ -1,6 +1,6 @@
 use mathlib.Core.Path.{sym, ap}
 use Rattle.codes.specs.Codes.{extended, x0_of}
-use Rattle.codes.proofs.x0.Goals as goal
+use Rattle.codes.proofs.U64FromCode.from.Goals as goal
 
 pub returns-in-Ok : goal.returns-in-Ok
 unfolding x0_of extended

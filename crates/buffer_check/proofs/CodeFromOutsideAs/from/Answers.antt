@@ -1,6 +1,6 @@
 use mathlib.Core.Path.{sym, ap}
 use Rattle.buffer_check.specs.Range.{outside_code}
-use Rattle.buffer_check.proofs.outside_code.Goals as goal
+use Rattle.buffer_check.proofs.CodeFromOutsideAs.from.Goals as goal
 
 pub returns-in-BadAddress : goal.returns-in-BadAddress
 unfolding outside_code
