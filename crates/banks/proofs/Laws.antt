@@ -1,31 +1,29 @@
 -- Laws of the granule record for other crates: an index is below the table's length, two addresses of the same granule are equal, and every
 -- index has an address. And one bank is a single range of memory (BN8). Assumes nothing.
-use Rattle.std.proofs.Common.{◌≡◌, ℕ, ◌+◌, ◌-◌, ◌*◌, ◌/◌, ◌%◌, ◌^◌, ◌<◌, ◌≤◌, Bool, true, false, cond, eqb, ltb, leb, List, [], ◌∷◌, length, get_or, sym, refl, ap, ◌∙◌, zero-add, arith, ltb-true, le-ltb, lt-ltb, eq-eqb, eqb-true, le-leb, leb-true}
+use Rattle.std.proofs.Common.{◌≡◌, ℕ, ◌+◌, ◌-◌, ◌*◌, ◌/◌, ◌%◌, ◌^◌, ◌<◌, ◌≤◌, Bool, true, false, cond, eqb, ltb, leb, List, [], ◌∷◌, length, get_or, sym, refl, ap, ◌∙◌, zero-add, arith, ltb-true, le-ltb, lt-ltb, eq-eqb, eqb-true, le-leb, leb-true, Option, Some, None}
+use Rattle.std.specs.Option.{option_or}
 use native.Mathlib.Decide.{dec_lt}
 use Rattle.words.specs.Tests.{both, Yes}
 use Rattle.words.specs.Word.{word_at}
 use Rattle.words.proofs.Tests.{both_l, both_r, both_of, same_test}
 use Rattle.entries.specs.Entry.{bank_ok}
 use Rattle.codes.specs.declared.Code.TheVariants.{Ok}
-use Rattle.banks.specs.declared.Granule.{Granule}
-use Rattle.banks.specs.declared.Granule.TheVariants.{Nothing, At}
 use Rattle.banks.specs.Banks.{Granules, Bank, banks_by, bank_at, bank_count, banks_of, ascend, banks_ok, record_ok, follows, total}
-use Rattle.banks.specs.Banks.{granule_count, holds, index_in, place_in, or_else, place_among, bank_place, granule_at, address_in, address_of}
+use Rattle.banks.specs.Banks.{granule_count, holds, index_in, place_in, place_among, bank_place, granule_at, address_in, address_of}
 use Rattle.banks.specs.Banks.{single_range, set_up_code, set_up_of}
 use Rattle.banks.proofs.Making.{banks-some, made_one, made-good}
 use Rattle.banks.proofs.Passing.{Follows, follows_is, or_nothing}
 
 -- ---- cases of an answer
-pub nowhere : (i : ℕ) → Nothing ≡ At i → ⊥
+pub nowhere : (i : ℕ) → None ≡ Some i → ⊥
 nowhere i h = let z : ◌≡◌ {A = ℕ} 0 1 = cc in omega arith
 
-pub or_cases : (b : Bool) (p i : ℕ) (r : Granule) {P : Type 0} → (Yes b → p ≡ i → P) → (r ≡ At i → P) →
-    or_else (cond b (At p) Nothing) r ≡ At i → P
-unfolding or_else
+pub or_cases : (b : Bool) (p i : ℕ) (r : Option ℕ) {P : Type 0} → (Yes b → p ≡ i → P) → (r ≡ Some i → P) →
+    option_or (cond b (Some p) None) r ≡ Some i → P
 or_cases true p i r f g h = f refl (cc)
 or_cases false p i r f g h = g h
 
-pub cond-at : (b : Bool) (x : Granule) (i : ℕ) → cond b x Nothing ≡ At i → Yes b × (x ≡ At i)
+pub cond-at : (b : Bool) (x : Option ℕ) (i : ℕ) → cond b x None ≡ Some i → Yes b × (x ≡ Some i)
 cond-at true x i h = (refl, h)
 cond-at false x i h = absurd (nowhere i h)
 
@@ -33,7 +31,7 @@ pub record Falls (g : Granules) (n addr i : ℕ) : Type 0 where
   pub whole : addr % 4096 ≡ 0
   pub ok : Yes (record_ok g)
   pub count : granule_count g ≡ n
-  pub place : place_among 0 (banks_of g) addr ≡ At i
+  pub place : place_among 0 (banks_of g) addr ≡ Some i
 
 pub ok-ascends : (g : Granules) → Yes (record_ok g) → Yes (ascend 0 (banks_of g))
 unfolding record_ok banks_ok
@@ -47,7 +45,7 @@ pub ok-few : (g : Granules) → Yes (record_ok g) → Yes (leb (bank_count g) 16
 unfolding record_ok banks_ok
 ok-few g k = both_l _ _ (both_r _ _ k)
 
-pub falls : (g : Granules) (n addr i : ℕ) → granule_at g n addr ≡ At i → Falls g n addr i
+pub falls : (g : Granules) (n addr i : ℕ) → granule_at g n addr ≡ Some i → Falls g n addr i
 unfolding granule_at bank_place
 falls g n addr i h =
     let p = cond-at (both (eqb (addr % 4096) 0) (eqb (granule_count g) n)) (bank_place g addr) i h in
@@ -76,7 +74,7 @@ same_place base before x y b m n p q e = omega arith
 abbrev Within : ℕ → ℕ → ℕ → Type 0
 Within before n i = (before ≤ i) × (i < before + n)
 
-among-within : (low before : ℕ) (bs : List Bank) (addr i : ℕ) → Yes (ascend low bs) → addr % 4096 ≡ 0 → place_among before bs addr ≡ At i →
+among-within : (low before : ℕ) (bs : List Bank) (addr i : ℕ) → Yes (ascend low bs) → addr % 4096 ≡ 0 → place_among before bs addr ≡ Some i →
     Within before (total bs) i
 unfolding ascend place_among place_in total
 among-within low before [] addr i a m h = absurd (nowhere i h)
@@ -93,7 +91,7 @@ among-within low before (b ∷ bs) addr i a m h =
     later w = (omega arith, omega arith)
 
 among_one : (low before : ℕ) (bs : List Bank) (x y i : ℕ) → Yes (ascend low bs) → x % 4096 ≡ 0 → y % 4096 ≡ 0 →
-    place_among before bs x ≡ At i → place_among before bs y ≡ At i → x ≡ y
+    place_among before bs x ≡ Some i → place_among before bs y ≡ Some i → x ≡ y
 unfolding ascend place_among place_in
 among_one low before [] x y i a m n h k = absurd (nowhere i h)
 among_one low before (b ∷ bs) x y i a m n h k =
@@ -105,7 +103,7 @@ among_one low before (b ∷ bs) x y i a m n h k =
     f : Follows low b.base b.size
     f = follows_is _ _ _ (both_l _ _ a)
 
-    within : (z : ℕ) → z % 4096 ≡ 0 → place_among (before + b.size / 4096) bs z ≡ At i → Within (before + b.size / 4096) (total bs) i
+    within : (z : ℕ) → z % 4096 ≡ 0 → place_among (before + b.size / 4096) bs z ≡ Some i → Within (before + b.size / 4096) (total bs) i
     within z w r = among-within (b.base + b.size) (before + b.size / 4096) bs z i (both_r _ _ a) w r
 
     same : Yes (holds b.base b.size x) → index_in before b.base x ≡ i → Yes (holds b.base b.size y) →
@@ -118,13 +116,13 @@ among_one low before (b ∷ bs) x y i a m n h k =
     apart z p d w = let u = holds-facts b.base b.size z p in let v = f in omega arith
 
 -- ---- the laws for other crates
-pub index_below : (g : Granules) (n addr i : ℕ) → granule_at g n addr ≡ At i → i < n
+pub index_below : (g : Granules) (n addr i : ℕ) → granule_at g n addr ≡ Some i → i < n
 index_below g n addr i h =
     let f = falls g n addr i h in
     let w = among-within 0 0 (banks_of g) addr i (ok-ascends g f.ok) f.whole f.place in
     omega (arith, f.count, ok-granules g f.ok)
 
-pub one_address : (g : Granules) (n x y i : ℕ) → granule_at g n x ≡ At i → granule_at g n y ≡ At i → x ≡ y
+pub one_address : (g : Granules) (n x y i : ℕ) → granule_at g n x ≡ Some i → granule_at g n y ≡ Some i → x ≡ y
 one_address g n x y i h k =
     let p = falls g n x i h in
     let q = falls g n y i k in
@@ -134,15 +132,15 @@ one_address g n x y i h k =
 record Named (low before : ℕ) (bs : List Bank) (i : ℕ) : Type 0 where
   whole : address_in bs i % 4096 ≡ 0
   from : low ≤ address_in bs i
-  place : place_among before bs (address_in bs i) ≡ At (before + i)
+  place : place_among before bs (address_in bs i) ≡ Some (before + i)
 
-pub in-bank : (before base size addr : ℕ) (r : Granule) → base ≤ addr → addr < base + size →
-    or_else (place_in before base size addr) r ≡ At (index_in before base addr)
-unfolding or_else place_in holds both
+pub in-bank : (before base size addr : ℕ) (r : Option ℕ) → base ≤ addr → addr < base + size →
+    option_or (place_in before base size addr) r ≡ Some (index_in before base addr)
+unfolding place_in holds both
 in-bank before base size addr r p q = simp (le-leb base addr p, lt-ltb addr (base + size) q)
 
-pub past-bank : (before base size addr : ℕ) (r : Granule) → base + size ≤ addr → or_else (place_in before base size addr) r ≡ r
-unfolding or_else place_in holds both
+pub past-bank : (before base size addr : ℕ) (r : Option ℕ) → base + size ≤ addr → option_or (place_in before base size addr) r ≡ r
+unfolding place_in holds both
 past-bank before base size addr r p = simp (le-leb base addr (omega arith), le-ltb addr (base + size) p)
 
 among-named : (low before : ℕ) (bs : List Bank) (i : ℕ) → Yes (ascend low bs) → i < total bs → Named low before bs i
@@ -164,7 +162,7 @@ among-named low before (b ∷ bs) i a h =
           from = rw (lt-ltb i (b.size / 4096) y) (omega arith);
           place =
               rw (lt-ltb i (b.size / 4096) y) (in-bank before b.base b.size (b.base + 4096 * i) _ (omega arith) (omega arith) ∙
-              ap At e);
+              ap Some e);
         }
     go (no y) ih =
         let n = ih (omega arith) in
@@ -174,14 +172,14 @@ among-named low before (b ∷ bs) i a h =
         record {
           whole = rw (le-ltb i (b.size / 4096) l) n.whole;
           from = rw (le-ltb i (b.size / 4096) l) (omega (arith, n.from));
-          place = rw (le-ltb i (b.size / 4096) l) (past-bank before b.base b.size _ _ n.from ∙ n.place ∙ ap At e);
+          place = rw (le-ltb i (b.size / 4096) l) (past-bank before b.base b.size _ _ n.from ∙ n.place ∙ ap Some e);
         }
 
-pub index-named : (g : Granules) (i : ℕ) → Yes (record_ok g) → i < granule_count g → granule_at g (granule_count g) (address_of g i) ≡ At i
+pub index-named : (g : Granules) (i : ℕ) → Yes (record_ok g) → i < granule_count g → granule_at g (granule_count g) (address_of g i) ≡ Some i
 unfolding granule_at bank_place both
 index-named g i ok h =
     let n = among-named 0 0 (banks_of g) i (ok-ascends g ok) (omega (arith, ok-granules g ok)) in
-    rw (eq-eqb (address_of g i % 4096) 0 n.whole, eq-eqb (granule_count g) (granule_count g) refl, ok) (n.place ∙ ap At (zero-add i))
+    rw (eq-eqb (address_of g i % 4096) 0 n.whole, eq-eqb (granule_count g) (granule_count g) refl, ok) (n.place ∙ ap Some (zero-add i))
 
 among-le : (low : ℕ) (bs : List Bank) → Yes (ascend low bs) → low ≤ 2 ^ 52 → low + 4096 * total bs ≤ 2 ^ 52
 unfolding ascend total
@@ -251,9 +249,9 @@ module _ (g : Granules) (one : bank_count g ≡ 1) (ok : Yes (record_ok g)) wher
       ) (go (eqb (addr % 4096) 0) refl)
     where
       go : (k : Bool) → eqb (addr % 4096) 0 ≡ k
-          → cond (both k true) (cond (holds (get_or g 1 0) (get_or g 2 0) addr) (At (0 + (addr - get_or g 1 0) / 4096)) Nothing) Nothing
+          → cond (both k true) (cond (holds (get_or g 1 0) (get_or g 2 0) addr) (Some (0 + (addr - get_or g 1 0) / 4096)) None) None
           ≡ cond (both k (both (leb (get_or g 1 0) addr) (ltb ((addr - get_or g 1 0) / 4096) (get_or g 2 0 / 4096))))
-          (At ((addr - get_or g 1 0) / 4096)) Nothing
+          (Some ((addr - get_or g 1 0) / 4096)) None
       go true e = rw (holds_same (get_or g 1 0) (get_or g 2 0) addr only-follows (eqb-true _ _ e), zero-add)
       go false e = refl
 

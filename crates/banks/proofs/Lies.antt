@@ -1,11 +1,11 @@
 -- Request E2: the granule of an address, in plain facts. Assumes nothing.
-use Rattle.std.proofs.Common.{◌≡◌, ℕ, zero, suc, ◌+◌, ◌-◌, ◌/◌, ◌%◌, ◌<◌, ◌≤◌, sym, ap, ◌∙◌, zero-add, arith, eq-eqb}
+use Rattle.std.proofs.Common.{◌≡◌, ℕ, zero, suc, ◌+◌, ◌-◌, ◌/◌, ◌%◌, ◌<◌, ◌≤◌, sym, ap, ◌∙◌, zero-add, arith, eq-eqb, Some}
+use Rattle.std.specs.Option.{option_or}
 use native.Mathlib.Decide.{ℕ_discrete}
 use Rattle.words.specs.Tests.{Yes}
 use Rattle.words.proofs.Tests.{both_l, both_r, both_of}
-use Rattle.banks.specs.declared.Granule.TheVariants.{At}
 use Rattle.banks.specs.Banks.{Granules, Bank, banks_by, bank_at, bank_count, ascend, record_ok, total, granule_count, holds, index_in}
-use Rattle.banks.specs.Banks.{place_in, or_else, place_among, bank_place, granule_at}
+use Rattle.banks.specs.Banks.{place_in, place_among, bank_place, granule_at}
 use Rattle.banks.specs.Fit.{LiesAt}
 use Rattle.banks.proofs.Passing.{Follows, follows_is}
 use Rattle.banks.proofs.Laws.{nowhere, or_cases, holds-facts, in-bank, past-bank, ok-ascends, ok-granules, falls}
@@ -21,7 +21,7 @@ module _ (f : ℕ → Bank) (addr : ℕ) where
     below : addr < (f bank).base + (f bank).size
     index : i ≡ before + total (banks_by f j (bank - j)) + (addr - (f bank).base) / 4096
 
-  found_in : (before j k i : ℕ) → place_among before (banks_by f j k) addr ≡ At i → In before j k i
+  found_in : (before j k i : ℕ) → place_among before (banks_by f j k) addr ≡ Some i → In before j k i
   unfolding place_among place_in banks_by total
   found_in before j zero i h = absurd (nowhere i h)
   found_in before j (suc k) i h = or_cases _ _ i _ here (λ r. later (found_in (before + (f j).size / 4096) (suc j) k i r)) h
@@ -60,28 +60,28 @@ module _ (f : ℕ → Bank) (addr : ℕ) where
 
   in-found : (low before j k b : ℕ) → Yes (ascend low (banks_by f j k)) → j ≤ b → b < j + k → (f b).base ≤ addr →
       addr < (f b).base + (f b).size →
-      place_among before (banks_by f j k) addr ≡ At (before + total (banks_by f j (b - j)) + (addr - (f b).base) / 4096)
+      place_among before (banks_by f j k) addr ≡ Some (before + total (banks_by f j (b - j)) + (addr - (f b).base) / 4096)
   unfolding ascend place_among banks_by total
   in-found low before j zero b h p q l m = absurd (let z : ⊥ = omega arith in z)
   in-found low before j (suc k) b h p q l m =
       go (ℕ_discrete b j) (in-found ((f j).base + (f j).size) (before + (f j).size / 4096) (suc j) k b (both_r _ _ h))
     where
       go : Dec (b ≡ j) → (suc j ≤ b → b < suc j + k → (f b).base ≤ addr → addr < (f b).base + (f b).size →
-          place_among (before + (f j).size / 4096) (banks_by f (suc j) k) addr ≡ At
+          place_among (before + (f j).size / 4096) (banks_by f (suc j) k) addr ≡ Some
           (before + (f j).size / 4096 + total (banks_by f (suc j) (b - suc j)) + (addr - (f b).base) / 4096)) →
-          or_else (place_in before (f j).base (f j).size addr) (place_among (before + (f j).size / 4096) (banks_by f (suc j) k) addr) ≡ At
+          option_or (place_in before (f j).base (f j).size addr) (place_among (before + (f j).size / 4096) (banks_by f (suc j) k) addr) ≡ Some
           (before + total (banks_by f j (b - j)) + (addr - (f b).base) / 4096)
       go (yes e) ih =
           let z : j - j ≡ 0 = omega arith in
-          rw e (in-bank before (f j).base (f j).size addr _ (rw e at l) (rw e at m) ∙ ap At (rw z (omega arith)))
+          rw e (in-bank before (f j).base (f j).size addr _ (rw e at l) (rw e at m) ∙ ap Some (rw z (omega arith)))
       go (no e) ih =
           let n : suc j ≤ b = omega arith in
           let r = base-from ((f j).base + (f j).size) (suc j) k b (both_r _ _ h) n (omega arith) in
           let z : b - j ≡ suc (b - suc j) = omega arith in
-          past-bank before (f j).base (f j).size addr _ (omega arith) ∙ ih n (omega arith) l m ∙ ap At (rw z (omega arith))
+          past-bank before (f j).base (f j).size addr _ (omega arith) ∙ ih n (omega arith) l m ∙ ap Some (rw z (omega arith))
 
 module _ (g : Granules) (n addr i : ℕ) where
-  pub granule-lies : granule_at g n addr ≡ At i → LiesAt g n addr i
+  pub granule-lies : granule_at g n addr ≡ Some i → LiesAt g n addr i
   unfolding record_ok
   granule-lies h =
       let v = falls g n addr i h in
@@ -97,7 +97,7 @@ module _ (g : Granules) (n addr i : ℕ) where
         index = r.index ∙ rw (z, total-to (bank_at g) r.bank, zero-add);
       }
 
-  pub lies-granule : LiesAt g n addr i → granule_at g n addr ≡ At i
+  pub lies-granule : LiesAt g n addr i → granule_at g n addr ≡ Some i
   unfolding granule_at bank_place record_ok
   lies-granule v =
       let t = fit-taken (bank_at g) (bank_count g) n v.fits in
@@ -105,4 +105,4 @@ module _ (g : Granules) (n addr i : ℕ) where
       let p = in-found (bank_at g) addr 0 0 0 (bank_count g) v.bank (ok-ascends g t.0) (omega arith) (omega (arith, v.in-record))
       v.from v.below in
       rw (both_of _ _ (eq-eqb (addr % 4096) 0 v.whole) (eq-eqb (granule_count g) n (granules-sum g n v.fits)), t.0)
-      (p ∙ ap At (rw (z, total-to (bank_at g) v.bank, zero-add) (sym v.index)))
+      (p ∙ ap Some (rw (z, total-to (bank_at g) v.bank, zero-add) (sym v.index)))

@@ -1,13 +1,21 @@
 -- The loop over the banks: what is left to check and to add. Assumes nothing.
-use Rattle.std.proofs.Common.{◌≡◌, ℕ, zero, suc, ◌+◌, ◌-◌, ◌*◌, ◌/◌, ◌%◌, ◌^◌, ◌<◌, ◌≤◌, Bool, true, false, List, [], ◌∷◌, get_or, sym, refl, ◌∙◌, arith, ltb-true, le-ltb, lt-ltb, eqb-true, le-leb, leb-true}
+use Rattle.std.proofs.Common.{◌≡◌, ℕ, zero, suc, ◌+◌, ◌-◌, ◌*◌, ◌/◌, ◌%◌, ◌^◌, ◌<◌, ◌≤◌, Bool, true, false, List, [], ◌∷◌, get_or, sym, refl, ◌∙◌, arith, ltb-true, le-ltb, lt-ltb, eqb-true, le-leb, leb-true, Option, Some, None, ltb}
+use Rattle.std.specs.Option.{option_or}
 use borrow.Author.Tests.{lt-leb}
+use native.Mathlib.Decide.{dec_lt}
 use Rattle.words.specs.Tests.{both, Yes}
 use Rattle.words.proofs.Tests.{both_l, both_r}
 use Rattle.entries.specs.Entry.{bank_ok}
-use Rattle.banks.specs.declared.Granule.{Granule}
-use Rattle.banks.specs.declared.Granule.TheVariants.{Nothing, At}
 use Rattle.banks.specs.Banks.{Granules, Bank, banks_by, bank_at, bank_count, banks_of, follows, ascend, banks_ok, record_ok, total}
-use Rattle.banks.specs.Banks.{granule_count, or_else}
+use Rattle.banks.specs.Banks.{granule_count}
+
+-- ---- an address below the end of a bank, without the sum, which could overflow
+pub below-end : (base size addr : ℕ) → base ≤ addr → ltb (addr - base) size ≡ ltb addr (base + size)
+below-end base size addr h = go (dec_lt addr (base + size))
+  where
+    go : Dec (addr < base + size) → ltb (addr - base) size ≡ ltb addr (base + size)
+    go (yes y) = rw (lt-ltb addr (base + size) y, lt-ltb (addr - base) size (omega arith))
+    go (no n) = rw (le-ltb addr (base + size) (omega arith), le-ltb (addr - base) size (omega arith))
 
 -- ---- a bank that follows
 pub record Follows (low base size : ℕ) : Type 0 where
@@ -40,10 +48,9 @@ banks-more f n i h = go (n - i) refl
     go zero e = absurd (let z : ◌≡◌ {A = ℕ} 0 1 = omega arith in omega arith)
     go (suc k) e = let z : n - (i + 1) ≡ k = omega arith in let s : i + 1 ≡ suc i = omega arith in rw (z, s)
 
-pub or_nothing : (p : Granule) → or_else p Nothing ≡ p
-unfolding or_else
-or_nothing (At i) = refl
-or_nothing Nothing = refl
+pub or_nothing : (p : Option ℕ) → option_or p None ≡ p
+or_nothing (Some i) = refl
+or_nothing None = refl
 
 -- ---- the loop before bank i: the result depends on what is left
 abbrev pub banks_from : List ℕ → ℕ → List Bank

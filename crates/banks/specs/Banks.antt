@@ -1,14 +1,13 @@
 -- The granule record of several banks. Request E2: "The granule record shall hold the banks, not one start address; the table is the
 -- banks' granules joined in bank order. An address in a hole is not a granule address." (BN1, BN6) Assumes nothing.
-use Rattle.std.specs.Prelude.{ℕ, zero, suc, ◌+◌, ◌-◌, ◌*◌, ◌/◌, ◌%◌, Bool, true, cond, List, [], ◌∷◌, ◌++◌, length, replicate, ◌==◌, nat_le, nat_lt, slice_index}
+use Rattle.std.specs.Prelude.{ℕ, zero, suc, ◌+◌, ◌-◌, ◌*◌, ◌/◌, ◌%◌, Bool, true, cond, List, [], ◌∷◌, ◌++◌, length, replicate, ◌==◌, nat_le, nat_lt, slice_index, Option, Some, None}
+use Rattle.std.specs.Option.{option_or}
 use Rattle.words.specs.Tests.{both}
 use Rattle.words.specs.Word.{word_at, words_of}
 use Rattle.entries.specs.Entry.{bank_ok}
 use Rattle.codes.specs.Codes.{is_false, fails, if_ok}
 use Rattle.codes.specs.declared.Code.{Code}
 use Rattle.codes.specs.declared.Code.TheVariants.{Ok, Inval}
-use Rattle.banks.specs.declared.Granule.{Granule}
-use Rattle.banks.specs.declared.Granule.TheVariants.{Nothing, At}
 
 -- the record, as its 33 words: the number of banks, then base and size of each. The words after the last bank are not read. (BN5, CE1)
 abbrev pub Granules : Type 0
@@ -75,27 +74,22 @@ abbrev pub index_in : (before base addr : ℕ) → ℕ
 index_in before base addr = before + (addr - base) / 4096
 
 -- the granule in one bank
-unfoldable pub place_in : (before base size addr : ℕ) → Granule
-place_in before base size addr = cond (holds base size addr) (At (index_in before base addr)) Nothing
-
--- the first granule, or the second if the first is nothing
-unfoldable pub or_else : Granule → Granule → Granule
-or_else (At i) g = At i
-or_else Nothing g = g
+unfoldable pub place_in : (before base size addr : ℕ) → Option ℕ
+place_in before base size addr = cond (holds base size addr) (Some (index_in before base addr)) None
 
 -- the granule in the first bank that holds the address: "An address in a hole is not a granule address." (BN6)
-unfoldable pub place_among : (before : ℕ) → List Bank → (addr : ℕ) → Granule
-place_among before [] addr = Nothing
-place_among before (b ∷ bs) addr = or_else (place_in before b.base b.size addr) (place_among (before + b.size / 4096) bs addr)
+unfoldable pub place_among : (before : ℕ) → List Bank → (addr : ℕ) → Option ℕ
+place_among before [] addr = None
+place_among before (b ∷ bs) addr = option_or (place_in before b.base b.size addr) (place_among (before + b.size / 4096) bs addr)
 
 -- the granule in the banks of a record (BN5 to BN7)
-unfoldable pub bank_place : Granules → ℕ → Granule
-bank_place g addr = cond (record_ok g) (place_among 0 (banks_of g) addr) Nothing
+unfoldable pub bank_place : Granules → ℕ → Option ℕ
+bank_place g addr = cond (record_ok g) (place_among 0 (banks_of g) addr) None
 
 -- the granule in a table of n granules. "BAD_ADDR unless .. the address are multiples of 4,096 and the address falls on a granule of
 -- the table." (CM2.3, CM3.3) Request E2: "a table of another length makes every address BAD_ADDR" (BN6)
-unfoldable pub granule_at : Granules → (n addr : ℕ) → Granule
-granule_at g n addr = cond (both (addr % 4096 == 0) (granule_count g == n)) (bank_place g addr) Nothing
+unfoldable pub granule_at : Granules → (n addr : ℕ) → Option ℕ
+granule_at g n addr = cond (both (addr % 4096 == 0) (granule_count g == n)) (bank_place g addr) None
 
 -- ---- for the theorems
 -- the address of granule i in a list of banks
@@ -109,10 +103,10 @@ address_of g i = address_in (banks_of g) i
 
 -- The granule of an address in one range of memory, in a table of n granules that starts at address G: "BAD_ADDR unless G and the address
 -- are multiples of 4,096 and the address falls on a granule of the table." (BN8)
-abbrev pub single_range : (start n addr : ℕ) → Granule
+abbrev pub single_range : (start n addr : ℕ) → Option ℕ
 single_range start n addr =
     cond (both (start % 4096 == 0) (both (addr % 4096 == 0) (both (nat_le start addr) (nat_lt ((addr - start) / 4096) n))))
-    (At ((addr - start) / 4096)) Nothing
+    (Some ((addr - start) / 4096)) None
 
 -- ---- the set-up
 -- bank i of the banks that the reader shows, from the bytes of the array lookup: 16 bytes a bank, base and size (BN3)

@@ -21,13 +21,6 @@ pub const GRANULES_WORDS: usize = 33;
 
 pub type GranulesImage = [u64; GRANULES_WORDS];
 
-// The granule of an address: its index in the table, or nothing.
-#[derive(Clone, Copy)]
-pub enum Granule {
-    Nothing,
-    At(usize),
-}
-
 // A bank, and the number of granules in the banks before it.
 #[derive(Clone, Copy)]
 pub struct BankSpan {
@@ -36,10 +29,10 @@ pub struct BankSpan {
     pub before: u64,
 }
 
-// The granule of an address, and the bank to look in first for the next address.
+// The granule of an address (its index in the table, if it is on one), and the bank to look in first for the next address.
 #[derive(Clone, Copy)]
 pub struct Found {
-    pub granule: Granule,
+    pub granule: Option<usize>,
     pub bank: BankSpan,
 }
 
@@ -56,10 +49,7 @@ fn bank_ok(base: u64, size: u64) -> bool
 fn bank_follows(low: u64, base: u64, size: u64) -> bool
     ensures { result ≡ follows low base size }
 {
-    if base < low {
-        return false;
-    }
-    bank_ok(base, size)
+    low <= base && bank_ok(base, size)
 }
 
 // Returns the number of granules of a record; 0 if the set-up would refuse its banks (BN5).
@@ -127,13 +117,7 @@ pub fn set_up(shown: &[u8], n: u64, granules: &mut GranulesImage) -> Code
 fn bank_holds(base: u64, size: u64, address: u64) -> bool
     ensures { result ≡ holds base size address }
 {
-    if address < base {
-        return false;
-    }
-    if size <= address - base {
-        return false;
-    }
-    true
+    base <= address && address - base < size
 }
 
 // Returns the number of granules of a bank of any size.
@@ -155,18 +139,19 @@ pub fn no_bank() -> BankSpan
 }
 
 // Returns the granule of an address in one bank. The addition wraps for no bank of a record that has granules.
-fn granule_in(bank: BankSpan, address: u64) -> Granule
+fn granule_in(bank: BankSpan, address: u64) -> Option<usize>
     ensures { result ≡ granule_in bank address }
 {
-    let base = bank.base;
     if address % words::PAGE_SIZE != 0 {
-        return Granule::Nothing;
+        return None;
     }
-    if !bank_holds(base, bank.size, address) {
-        return Granule::Nothing;
+    if !bank_holds(bank.base, bank.size, address) {
+        return None;
     }
-    let index = std::num::wrapping_add_u64(bank.before, (address - base) / words::PAGE_SIZE);
-    Granule::At(index as usize)
+    let index = bank
+        .before
+        .wrapping_add((address - bank.base) / words::PAGE_SIZE);
+    Some(index as usize)
 }
 
 // Returns the first bank that holds an address, or no bank. Does not check the banks.
@@ -195,9 +180,9 @@ pub fn find_from(granules: &GranulesImage, bank: BankSpan, address: u64) -> Foun
     ensures { result ≡ found_from granules.now bank address }
 {
     let granule = granule_in(bank, address);
-    let Granule::Nothing = granule else {
+    if granule.is_some() {
         return Found { granule, bank };
-    };
+    }
     let own = bank_of(granules, address);
     Found {
         granule: granule_in(own, address),
@@ -211,17 +196,13 @@ pub fn find_from(granules: &GranulesImage, bank: BankSpan, address: u64) -> Foun
 pub fn has_one_bank(granules: &GranulesImage, n: usize) -> bool
     ensures { result ≡ has_one_bank granules.now n }
 {
-    if granules[0] != 1 {
-        return false;
-    }
-    if granules[2] / words::PAGE_SIZE != n as u64 {
-        return false;
-    }
-    bank_ok(granules[1], granules[2])
+    granules[0] == 1
+        && granules[2] / words::PAGE_SIZE == n as u64
+        && bank_ok(granules[1], granules[2])
 }
 
 // Returns the granule of an address in the first bank.
-pub fn find_first(granules: &GranulesImage, address: u64) -> Granule
+pub fn find_first(granules: &GranulesImage, address: u64) -> Option<usize>
     ensures { result ≡ granule_in (first_bank granules.now) address }
 {
     let first = BankSpan {

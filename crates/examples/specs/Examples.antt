@@ -1,5 +1,5 @@
 -- The examples of docs/RULES.md, chapter 23, that are marked *, each proved from the definitions, in one record. Assumes nothing.
-use Rattle.std.specs.Prelude.{ℕ, ◌+◌, ◌-◌, ◌%◌, ◌^◌, ◌≤◌, ◌<◌, Bool, true, false, ◌≡◌, refl, List, [], ◌∷◌, ◌++◌, length, get_or, replicate, leb, ltb}
+use Rattle.std.specs.Prelude.{ℕ, ◌+◌, ◌-◌, ◌%◌, ◌^◌, ◌≤◌, ◌<◌, Bool, true, false, ◌≡◌, refl, List, [], ◌∷◌, ◌++◌, length, get_or, replicate, leb, ltb, Some}
 use Rattle.std.proofs.Common.{arith, eqb-true, le-ltb, lt-ltb, le-leb}
 use Rattle.std.proofs.lemmas.Bool.{lt-leb}
 use Rattle.words.specs.Tests.{both, either, every}
@@ -22,7 +22,6 @@ use Rattle.buffer_check.specs.Range.{outside, too_long}
 use Rattle.granule_rules.specs.Granules.{GranuleTable, from_byte, is_shared_page, granule_code, move_code, moved_by, fitting, when_fit, move_of}
 use Rattle.granule_rules.specs.Granules.{delegate_of}
 use Rattle.banks.specs.Banks.{Granules, granule_at}
-use Rattle.banks.specs.declared.Granule.TheVariants.{At}
 use Rattle.features.specs.Features.{update_code}
 use Rattle.writer_rules.specs.Write.{Made, no-page, a-page, writer_gate, write_of}
 
@@ -80,7 +79,7 @@ pub record Examples : Type 0 where
   pub e9 : x0_of BadAddr ≡ 0xFFFFFFFFFFFFFFFE
   -- "10* Delegating a Realm granule: BAD_PAS." (CM2.5), with ceil(granules / 64) realm words (CM2.1)
   pub e10 : (u : Params) (g : Granules) (t : GranuleTable) (addr i : ℕ) → fitting g t ≡ true →
-      granule_at g (length t.bytes) addr ≡ At i → get_or t.bytes i 0 ≡ 1 →
+      granule_at g (length t.bytes) addr ≡ Some i → get_or t.bytes i 0 ≡ 1 →
       delegate_of (Up u) g t addr ≡ record { answer = answer_of BadPas 0 0; table = t }
   -- "11* m = 7: mecid 255 passes, 256 does not." (CM8.2)
   pub e11 : (u : Params) → (5 ≤ u.minor → update_code u 7 255 ≡ Ok) × (update_code u 7 256 ≡ Inval)
@@ -89,7 +88,7 @@ check-one : (s : ℕ) → s < 2 ^ 64 → check_ok 1 0x80000028 bank s ≡ true �
 unfolding check_ok sum
 check-one s h t = let e : (1 + 0x80000028 + (0x90000000 + (0x10000000 + 0)) + s) % 2 ^ 64 ≡ 0 = eqb-true _ _ t in omega arith
 
-granted : (u : Params) (g : Granules) (t : GranuleTable) (addr i : ℕ) → fitting g t ≡ true → granule_at g (length t.bytes) addr ≡ At i →
+granted : (u : Params) (g : Granules) (t : GranuleTable) (addr i : ℕ) → fitting g t ≡ true → granule_at g (length t.bytes) addr ≡ Some i →
     get_or t.bytes i 0 ≡ 1 →
     delegate_of (Up u) g t addr ≡ record { answer = answer_of BadPas 0 0; table = t }
 unfolding move_of moved_by move_code granule_code is_shared_page from_byte when_fit when_up is_up is_false fails

@@ -14,9 +14,10 @@ use Rattle.granule_rules.specs.Granules.{table_of, Moved, moved_by, move_of}
 use Rattle.granule_rules.specs.Lists.{done_by, table_by}
 use Rattle.granule_rules.specs.declared.Direction.{Direction}
 use Rattle.realm_words.specs.Bits.{realm_words}
+use Rattle.realm_words.specs.Answers as answers
 use Rattle.realm_words.specs.Answers.{both_fit, realm_count_of, realm_next_of, realm_build_of}
-use Rattle.realm_words.specs.declared.Number.{Number}
-use Rattle.realm_words.specs.declared.Hit.{Hit}
+use Rattle.std.specs.Prelude.{Option, Some, None, Result}
+use Rattle.realm_words.specs.declared.Inval as realm
 use Rattle.banks.specs.Banks.{Granules, granule_count, shown_count, takes, record_from, set_up_code, set_up_of}
 use Rattle.granule_rules.proofs.Moving.{move-refused}
 use Rattle.granule_rules.proofs.Done.{list-is}
@@ -260,25 +261,25 @@ unfolding move_list_in move_left register_words answer_of
 lists d state granules table words addresses = rw (list-is (record_of state) granules d (table_of table words) addresses)
 
 -- ---- the realm words
-count-told : (a : Number) → (number_x0 a ≡ 0 → ⊥) → number_words a ≡ 0 ∷ []
+count-told : (a : Result ℕ realm.Inval) → (number_x0 a ≡ 0 → ⊥) → number_words a ≡ 0 ∷ []
 unfolding number_x0 number_words x0_of extended
-count-told Number.Inval h = refl
-count-told (Number.Count n) h = absurd (h refl)
+count-told (Result.Err e) h = refl
+count-told (Result.Ok n) h = absurd (h refl)
 
-next-told : (a : Hit) → (hit_x0 a ≡ 0 → ⊥) → hit_words a ≡ 0 ∷ []
+next-told : (a : Result (Option ℕ) realm.Inval) → (hit_x0 a ≡ 0 → ⊥) → hit_words a ≡ 0 ∷ []
 unfolding hit_x0 hit_words x0_of extended
-next-told Hit.Inval h = refl
-next-told Hit.Nothing h = refl
-next-told (Hit.At i) h = absurd (h refl)
+next-told (Result.Err e) h = refl
+next-told (Result.Ok None) h = refl
+next-told (Result.Ok (Some i)) h = absurd (h refl)
 
 build-told : (granules table words : List ℕ) → ((build_in granules table words).x0 ≡ 0 → ⊥) →
     build_in granules table words ≡ record { x0 = x0_of Inval; words = words }
 unfolding build_in build_left realm_build_of built_x0 x0_of extended
 build-told granules table words h = go (both_fit table words (granule_count granules)) h
   where
-    go : (b : Bool) → ((build_left (cond b (record { done = true; words = realm_words table })
-        (record { done = false; words = words }))).x0 ≡ 0 → ⊥) →
-        build_left (cond b (record { done = true; words = realm_words table }) (record { done = false; words = words })) ≡
+    go : (b : Bool) → ((build_left (cond b (record { done = Result.Ok tt; words = realm_words table })
+        (record { done = Result.Err answers.inval; words = words }))).x0 ≡ 0 → ⊥) →
+        build_left (cond b (record { done = Result.Ok tt; words = realm_words table }) (record { done = Result.Err answers.inval; words = words })) ≡
         record { x0 = x0_of Inval; words = words }
     go true h = absurd (h refl)
     go false h = refl

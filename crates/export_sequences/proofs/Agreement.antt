@@ -8,7 +8,7 @@ use Rattle.words.specs.Tests.{Yes}
 use Rattle.words.specs.Word.{are_words}
 use Rattle.banks.specs.Banks.{granule_count}
 use Rattle.realm_words.specs.Answers.{realm_count_of, realm_next_of, realms, next_realm}
-use Rattle.realm_words.specs.declared.Number.{Number}
+use Rattle.std.specs.Prelude.{Result}
 use Rattle.granule_rules.specs.Granules.{table_of, Agrees}
 use Rattle.granule_rules.proofs.Agreement.{count_walks, next-walks}
 use Rattle.runtime.specs.Step.{World}
@@ -37,11 +37,11 @@ module _ (granules : List ℕ) (m : Lent) (es : List Exported) (l : length m.que
         n ∙ sym (ap (λ (x : World). length x.table.bytes) (exports-chain granules m es l w a b) ∙
         length-stays granules (lent_world m) (map command_of es))
 
-    pub exports_count : realm_count_of (all_exported granules m es).words (granule_count granules) ≡ Number.Count
+    pub exports_count : realm_count_of (all_exported granules m es).words (granule_count granules) ≡ Result.Ok
         (realms (all_exported granules m es).table)
     exports_count = count_walks granules (table_of (all_exported granules m es).table (all_exported granules m es).words) still exports-agree
 
     pub exports-next : (i : ℕ) → i < granule_count granules →
-        realm_next_of (all_exported granules m es).words (granule_count granules) i ≡ next_realm (all_exported granules m es).table i
+        realm_next_of (all_exported granules m es).words (granule_count granules) i ≡ Result.Ok (next_realm (all_exported granules m es).table i)
     exports-next i h =
         next-walks granules (table_of (all_exported granules m es).table (all_exported granules m es).words) still exports-agree i h

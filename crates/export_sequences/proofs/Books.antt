@@ -1,4 +1,5 @@
 -- Request E14: the balance of Realm granules over any sequence of exports, counted from the words of `out`. Assumes nothing.
+use Rattle.std.specs.Prelude.{true, Some, Result}
 use Prim.Native.Nat.{ℕ}
 use mathlib.Core.Path.{◌≡◌, refl, sym, ap, subst}
 use mathlib.Core.Bool.{Bool, true, false, cond}
@@ -10,11 +11,8 @@ use Rattle.banks.specs.Banks.{granule_count, granule_at}
 use Rattle.granule_rules.specs.Granules.{GranuleTable, table_of, Agrees, moved_by, move_of}
 use Rattle.granule_rules.specs.Changes.{Change, change}
 use Rattle.realm_words.specs.Answers.{realm_count_of, realm_agree_of, realms}
-use Rattle.realm_words.specs.declared.Number.{Number}
-use Rattle.realm_words.specs.declared.Agreement.{Agreement}
 use Rattle.realm_words.proofs.Laws.{agree-told, agree-sized}
 use Rattle.granule_rules.specs.Books.{NoneNames, nil, cons, Books, CountBooks}
-use Rattle.banks.specs.declared.Granule.TheVariants.{At}
 use Rattle.granule_rules.specs.declared.Direction.{Direction}
 use Rattle.banks.proofs.Laws.{one_address}
 use Rattle.granule_rules.proofs.Agreement.{count_walks}
@@ -120,14 +118,14 @@ exports-books granules m es =
     (all_told granules m es) (accounts granules m es)
 
 -- ---- by address: each granule has exactly one
-none-names : (granules : List ℕ) (n addr i : ℕ) → granule_at granules n addr ≡ At i → (cs : List Change) → NoneAt addr cs →
+none-names : (granules : List ℕ) (n addr i : ℕ) → granule_at granules n addr ≡ Some i → (cs : List Change) → NoneAt addr cs →
     NoneNames granules n i cs
 none-names granules n addr i e [] nowhere = nil
 none-names granules n addr i e (c ∷ cs) (elsewhere _ _ h r) =
     cons c cs (λ k. h (one_address granules n c.address addr i k e)) (none-names granules n addr i e cs r)
 
 pub exports-by-address : (granules : List ℕ) (m : Lent) (es : List Exported) (addr i : ℕ) →
-    granule_at granules (length m.table) addr ≡ At i → ByAddress granules m es addr i
+    granule_at granules (length m.table) addr ≡ Some i → ByAddress granules m es addr i
 exports-by-address granules m es addr i e =
     let b = exports-books granules m es in
     record {
@@ -137,7 +135,7 @@ exports-by-address granules m es addr i e =
 
 -- ---- the count of the realm words
 pub exports-count-books : (granules : List ℕ) (m : Lent) (es : List Exported) →
-    realm_agree_of m.table m.words (granule_count granules) ≡ Agreement.Yes →
+    realm_agree_of m.table m.words (granule_count granules) ≡ Result.Ok true →
     CountBooks granules (table_of m.table m.words) (all_told granules m es)
     (table_of (all_exported granules m es).table (all_exported granules m es).words)
 exports-count-books granules m es y =
@@ -148,7 +146,7 @@ exports-count-books granules m es y =
       final = realms (all_exported granules m es).table;
       at-start = count_walks granules (table_of m.table m.words) n a;
       at-end =
-          subst (λ (t : GranuleTable). realm_count_of t.words (granule_count granules) ≡ Number.Count (realms t.bytes))
+          subst (λ (t : GranuleTable). realm_count_of t.words (granule_count granules) ≡ Result.Ok (realms t.bytes))
           (exports-table granules (lent_world m) m es refl)
           (count-after granules (lent_world m) (map command_of es) a n);
       balance = (exports-books granules m es).balance;

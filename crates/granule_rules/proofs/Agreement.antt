@@ -1,16 +1,14 @@
 -- Request E6: "If words and table agree the answers equal those of the full walk". Delegation and undelegation, and lists of them, keep
 -- agreement, refused or not. Assumes nothing.
+use Rattle.std.specs.Prelude.{Option, Some, None, Result}
 use Prim.Native.Nat.{ℕ, ◌<◌}
 use mathlib.Core.Path.{◌≡◌, refl, sym, subst}
 use mathlib.Core.List.{List, [], ◌∷◌}
 use native.Mathlib.Omega.{arith}
 use lib.ListN.{length, take}
 use Rattle.banks.specs.Banks.{Granules, granule_count, granule_at}
-use Rattle.banks.specs.declared.Granule.{Granule}
-use Rattle.banks.specs.declared.Granule.TheVariants.{Nothing, At}
 use Rattle.banks.proofs.Laws.{index_below}
 use Rattle.realm_words.specs.Answers.{realm_count_of, realm_next_of, realms, next_realm}
-use Rattle.realm_words.specs.declared.Number.{Number}
 use Rattle.realm_words.proofs.Laws.{count-agrees, next-agrees, words-put}
 use Rattle.boot.specs.declared.Record.{Record}
 use Rattle.codes.specs.Codes.{boot_params, when_up}
@@ -22,18 +20,18 @@ use Rattle.granule_rules.proofs.Done.{list-is}
 
 -- ---- the answers
 module _ (g : Granules) (t : GranuleTable) (n : granule_count g ≡ length t.bytes) (a : Agrees t) where
-  pub count_walks : realm_count_of t.words (granule_count g) ≡ Number.Count (realms t.bytes)
+  pub count_walks : realm_count_of t.words (granule_count g) ≡ Result.Ok (realms t.bytes)
   count_walks = rw (n, a) (count-agrees t.bytes)
 
-  pub next-walks : (i : ℕ) → i < granule_count g → realm_next_of t.words (granule_count g) i ≡ next_realm t.bytes i
+  pub next-walks : (i : ℕ) → i < granule_count g → realm_next_of t.words (granule_count g) i ≡ Result.Ok (next_realm t.bytes i)
   next-walks i h = rw (n, a) (next-agrees t.bytes i (omega arith))
 
 -- ---- what keeps agreement
-set_keeps : (g : Granules) (d : Direction) (t : GranuleTable) (addr : ℕ) (k : Granule) → granule_at g (length t.bytes) addr ≡ k →
+set_keeps : (g : Granules) (d : Direction) (t : GranuleTable) (addr : ℕ) (k : Option ℕ) → granule_at g (length t.bytes) addr ≡ k →
     Agrees t → Agrees (granule_set d t k)
 unfolding granule_set
-set_keeps g d t addr Nothing e a = a
-set_keeps g d t addr (At i) e a = rw a (sym (words-put t.bytes i _ (index_below g (length t.bytes) addr i e)))
+set_keeps g d t addr None e a = a
+set_keeps g d t addr (Some i) e a = rw a (sym (words-put t.bytes i _ (index_below g (length t.bytes) addr i e)))
 
 module _ (s : Record) (g : Granules) (d : Direction) where
   pub move-keeps : (t : GranuleTable) (addr : ℕ) → Agrees t → Agrees (move_of s g d t addr).table

@@ -1,4 +1,5 @@
 -- Request E14: the books balance over each accepted call, and compose from table to table. Assumes nothing.
+use Rattle.std.specs.Prelude.{Option, Some, None}
 use Prim.Native.Nat.{ℕ, zero, suc, ◌+◌, ◌<◌}
 use mathlib.Core.Path.{◌≡◌, refl, sym, ap, ◌∙◌}
 use mathlib.Core.Bool.{Bool, true, false, cond}
@@ -11,8 +12,6 @@ use Rattle.boot.specs.declared.Record.{Record}
 use Rattle.codes.specs.Codes.{answer_of}
 use Rattle.codes.specs.declared.Code.TheVariants.{Ok}
 use Rattle.banks.specs.Banks.{Granules, granule_at}
-use Rattle.banks.specs.declared.Granule.{Granule}
-use Rattle.banks.specs.declared.Granule.TheVariants.{Nothing, At}
 use Rattle.banks.proofs.Laws.{index_below}
 use Rattle.realm_words.specs.Bits.{realm_bit}
 use Rattle.realm_words.specs.Answers.{realms}
@@ -45,18 +44,18 @@ realms-one (x ∷ xs) (y ∷ ys) (suc i) l n h =
     rw (h 0 (λ e. omega arith)) (omega (arith, realms-one xs ys i (omega arith) (omega arith) (λ j k. h (suc j) (λ e. k (omega arith)))))
 
 -- ---- the byte that the changes leave, one after another
-pub is_at : ℕ → Granule → Bool
-is_at i Nothing = false
-is_at i (At j) = eqb i j
+pub is_at : ℕ → Option ℕ → Bool
+is_at i None = false
+is_at i (Some j) = eqb i j
 
-is-at : (i : ℕ) (k : Granule) → k ≡ At i → is_at i k ≡ true
+is-at : (i : ℕ) (k : Option ℕ) → k ≡ Some i → is_at i k ≡ true
 unfolding is_at
 is-at i k e = rw e (eq-eqb i i refl)
 
-not_at : (i : ℕ) (k : Granule) → (k ≡ At i → ⊥) → is_at i k ≡ false
+not_at : (i : ℕ) (k : Option ℕ) → (k ≡ Some i → ⊥) → is_at i k ≡ false
 unfolding is_at
-not_at i Nothing n = refl
-not_at i (At j) n = ne_eqb i j (λ e. n (ap At (sym e)))
+not_at i None n = refl
+not_at i (Some j) n = ne_eqb i j (λ e. n (ap Some (sym e)))
 
 module _ (g : Granules) (n i : ℕ) where
   pub left_by : List Change → ℕ → ℕ
@@ -79,7 +78,7 @@ module _ (g : Granules) (n i : ℕ) where
   left-last before c behind x m r =
       left-append before (c ∷ behind) x ∙ rw (is-at i (granule_at g n c.address) m) (left-none behind (to_byte c.way) r)
 
-  none_named : (cs : List Change) → ((a : ℕ) → granule_at g n a ≡ At i → ⊥) → NoneNames g n i cs
+  none_named : (cs : List Change) → ((a : ℕ) → granule_at g n a ≡ Some i → ⊥) → NoneNames g n i cs
   none_named [] h = nil
   none_named (c ∷ cs) h = cons c cs (h c.address) (none_named cs h)
 

@@ -1,4 +1,5 @@
 -- Request E1: what a list of granules does, in terms of its single calls. Assumes nothing.
+use Rattle.std.specs.Prelude.{Some}
 use Prim.Native.Nat.{ℕ, zero, suc, ◌+◌, ◌<◌, ◌≤◌}
 use mathlib.Core.Path.{◌≡◌, refl, sym, ap, ◌∙◌}
 use mathlib.Core.Bool.{Bool, true, false, false≢true}
@@ -17,7 +18,6 @@ use Rattle.granule_rules.specs.Granules.{GranuleTable, from_byte, to_byte, is_sh
 use Rattle.granule_rules.specs.Granules.{moved_to}
 use Rattle.granule_rules.specs.Acts.{MoveActed}
 use Rattle.granule_rules.specs.Lists.{onward, list_by, move_list_of, done_by, table_by, code_by, code_at, Longest}
-use Rattle.banks.specs.declared.Granule.TheVariants.{At}
 use Rattle.granule_rules.specs.declared.Direction.{Direction}
 use Rattle.granule_rules.specs.declared.Direction.TheVariants.{Delegate, Undelegate}
 use Rattle.granule_rules.proofs.Moving.{move-refused, move-unfit, move_up, move-pas, fit-kept}
@@ -134,14 +134,14 @@ module _ (s : Record) (g : Granules) (d : Direction) where
 
   -- the single call of an address whose granule already has the byte that it would get
   marked_refused : (t : GranuleTable) (a i : ℕ) → fitting g t ≡ true → is_up s ≡ true → is_shared_page (boot_params s) d a ≡ false →
-      granule_at g (length t.bytes) a ≡ At i → get_or t.bytes i 0 ≡ to_byte d → (move_of s g d t a).answer.code ≡ BadPas
+      granule_at g (length t.bytes) a ≡ Some i → get_or t.bytes i 0 ≡ to_byte d → (move_of s g d t a).answer.code ≡ BadPas
   unfolding moved_to answer_of
   marked_refused t a i f u n e h =
       ap (λ (m : Moved). m.answer.code) (sym (move-pas (boot_params s) g d t.bytes t.words a i e n (λ b. differs (sym h ∙ b)) ∙
       move_up s g d t a f u))
 
   again-from : (l : List ℕ) (t : GranuleTable) (j a i : ℕ) → fitting g t ≡ true →
-      (is_up s ≡ true) × (is_shared_page (boot_params s) d a ≡ false) → granule_at g (length t.bytes) a ≡ At i →
+      (is_up s ≡ true) × (is_shared_page (boot_params s) d a ≡ false) → granule_at g (length t.bytes) a ≡ Some i →
       get_or t.bytes i 0 ≡ to_byte d → get_or l j 0 ≡ a → j < length l →
       j ≤ done_by (move_of s g d) t l → (done_by (move_of s g d) t l ≡ j) × (code_by (move_of s g d) t l ≡ BadPas)
   unfolding done_by code_by

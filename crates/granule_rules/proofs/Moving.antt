@@ -1,4 +1,5 @@
 -- Delegation, return by return, and what a refusal leaves. Assumes nothing.
+use Rattle.std.specs.Prelude.{Option, Some, None}
 use Prim.Native.Nat.{ℕ, ◌+◌, ◌/◌, ◌<◌}
 use mathlib.Core.Path.{◌≡◌, refl, sym, ap, ◌∙◌}
 use mathlib.Core.Bool.{Bool, true, false, false≢true}
@@ -23,12 +24,10 @@ use Rattle.banks.proofs.Fast.{table_fits, table-fits, table-unfit}
 use Rattle.granule_rules.specs.Granules.{GranuleTable, table_of, from_byte, to_byte, is_shared_page, granule_code, move_code, granule_set}
 use Rattle.granule_rules.specs.Granules.{moved, Moved, moved_by, fitting, when_fit, move_of, moved_to}
 use Rattle.granule_rules.specs.Steps.{Inside, shared_code, move_at}
-use Rattle.banks.specs.declared.Granule.{Granule}
-use Rattle.banks.specs.declared.Granule.TheVariants.{Nothing, At}
 use Rattle.granule_rules.specs.declared.Direction.{Direction}
 
 -- ---- the granule of an address is within the table
-pub granule-inside : (g : Granules) (t ws : List ℕ) (addr : ℕ) (k : Granule) → Yes (words_fit ws (granule_count g)) →
+pub granule-inside : (g : Granules) (t ws : List ℕ) (addr : ℕ) (k : Option ℕ) → Yes (words_fit ws (granule_count g)) →
     k ≡ granule_at g (length t) addr → Inside k t ws
 unfolding words_for
 granule-inside g t ws addr k f e i h =
@@ -43,11 +42,11 @@ fit-long ws old n e f = ap (λ m. eqb m (words_for n)) e ∙ f
 
 -- ---- a record that is up
 module _ (u : Params) (g : Granules) (d : Direction) (t ws : List ℕ) (addr : ℕ) where
-  pub move-addr : granule_at g (length t) addr ≡ Nothing → moved_to (answer_of BadAddr 0 0) t ws ≡ move_at u g d (table_of t ws) addr
+  pub move-addr : granule_at g (length t) addr ≡ None → moved_to (answer_of BadAddr 0 0) t ws ≡ move_at u g d (table_of t ws) addr
   unfolding moved_to move_at moved_by move_code granule_code moved granule_set
   move-addr e = rw e
 
-  module _ (i : ℕ) (e : granule_at g (length t) addr ≡ At i) where
+  module _ (i : ℕ) (e : granule_at g (length t) addr ≡ Some i) where
     pub move-shared : is_shared_page u d addr ≡ true → moved_to (answer_of BadAddr 0 0) t ws ≡ move_at u g d (table_of t ws) addr
     unfolding moved_to move_at moved_by move_code granule_code moved granule_set fails
     move-shared k = rw (e, k)
@@ -65,10 +64,10 @@ module _ (u : Params) (g : Granules) (d : Direction) (t ws : List ℕ) (addr : �
 abbrev pub AsLong : GranuleTable → GranuleTable → Type 0
 AsLong t after = (length after.bytes ≡ length t.bytes) × (length after.words ≡ length t.words)
 
-set-lengths : (d : Direction) (t : GranuleTable) (k : Granule) → AsLong t (granule_set d t k)
+set-lengths : (d : Direction) (t : GranuleTable) (k : Option ℕ) → AsLong t (granule_set d t k)
 unfolding granule_set put_bit
-set-lengths d t Nothing = (refl, refl)
-set-lengths d t (At i) = (length-set t.bytes i _, length-set t.words (i / 64) _)
+set-lengths d t None = (refl, refl)
+set-lengths d t (Some i) = (length-set t.bytes i _, length-set t.words (i / 64) _)
 
 by_lengths : (k : Code) (g : Granules) (d : Direction) (t : GranuleTable) (addr : ℕ) → AsLong t (moved_by k (moved g d t addr) t).table
 unfolding moved_by moved
@@ -106,7 +105,7 @@ module _ (s : Record) (g : Granules) (d : Direction) (t : GranuleTable) (addr : 
     told-up h u v m e = e ∙ rw v (move_up h)
 
     -- the address is on no granule of the table
-    move-nowhere : is_up s ≡ true → granule_at g (length t.bytes) addr ≡ Nothing →
+    move-nowhere : is_up s ≡ true → granule_at g (length t.bytes) addr ≡ None →
         moved_to (answer_of BadAddr 0 0) t.bytes t.words ≡ move_of s g d t addr
     move-nowhere h e = move-addr (boot_params s) g d t.bytes t.words addr e ∙ move_up h
 

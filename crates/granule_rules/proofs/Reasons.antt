@@ -1,6 +1,7 @@
 -- When delegation gives each of its codes. Request E6: INVAL first, if the number of words is wrong; "BAD_ADDR unless .. the address are
 -- multiples of 4,096 and the address falls on a granule of the table"; request E8: BAD_ADDR for undelegating the shared page; "BAD_PAS
 -- unless that byte is 0 (delegate) or 1 (undelegate)". Assumes nothing.
+use Rattle.std.specs.Prelude.{Option, Some, None}
 use Prim.Native.Nat.{ℕ, ◌+◌, ◌/◌}
 use mathlib.Core.Path.{◌≡◌, refl, sym, ◌∙◌}
 use mathlib.Core.List.{List}
@@ -9,8 +10,6 @@ use lib.ListN.{length, get_or}
 use lib.Dec.{eqb}
 use Rattle.banks.specs.Banks.{Granules, granule_count, granule_at}
 use Rattle.banks.specs.Fit.{LiesAt}
-use Rattle.banks.specs.declared.Granule.{Granule}
-use Rattle.banks.specs.declared.Granule.TheVariants.{Nothing, At}
 use Rattle.banks.proofs.Laws.{nowhere}
 use Rattle.banks.proofs.Lies.{granule-lies, lies-granule}
 use Rattle.boot.specs.declared.Params.{Params}
@@ -53,23 +52,23 @@ GranuleGives u g d t addr =
     (Gives ((i : ℕ) → LiesAt g (length t.bytes) addr i → Takes d (get_or t.bytes i 0) → ⊥) BadPas
     Passes))
 
-granule-gives : (u : Params) (g : Granules) (d : Direction) (t : GranuleTable) (addr : ℕ) (k : Granule) →
+granule-gives : (u : Params) (g : Granules) (d : Direction) (t : GranuleTable) (addr : ℕ) (k : Option ℕ) →
     granule_at g (length t.bytes) addr ≡ k → GranuleGives u g d t addr (granule_code u d t addr k)
 unfolding granule_code
-granule-gives u g d t addr Nothing e =
+granule-gives u g d t addr None e =
     record {
       where-it-holds = λ p. refl;
       elsewhere = λ n. absurd
           (n (λ i v. nowhere i (sym e ∙ lies-granule g (length t.bytes) addr i v)));
     }
-granule-gives u g d t addr (At i) e =
+granule-gives u g d t addr (Some i) e =
     record {
       where-it-holds = λ p. absurd (p i (granule-lies g (length t.bytes) addr i e));
       elsewhere = λ n. gives _ _ BadAddr _ _ (tells-shared u d addr) (λ s. gives _ _ BadPas _ _ byte (λ b. refl));
     }
   where
     same : (j : ℕ) → LiesAt g (length t.bytes) addr j → j ≡ i
-    same j v = let h : At j ≡ At i = sym (lies-granule g (length t.bytes) addr j v) ∙ e in cc
+    same j v = let h : Some j ≡ Some i = sym (lies-granule g (length t.bytes) addr j v) ∙ e in cc
 
     byte : Tells (is_false (eqb (get_or t.bytes i 0) (from_byte d)))
         ((j : ℕ) → LiesAt g (length t.bytes) addr j → Takes d (get_or t.bytes j 0) → ⊥)

@@ -1,4 +1,5 @@
 -- Request E8: the shared page stays Realm. Assumes nothing.
+use Rattle.std.specs.Prelude.{Some}
 use Prim.Native.Nat.{ℕ}
 use mathlib.Core.Path.{◌≡◌, refl, sym, ap, ◌∙◌}
 use native.Mathlib.Omega.{arith}
@@ -11,7 +12,6 @@ use Rattle.banks.specs.Banks.{granule_at}
 use Rattle.granule_rules.specs.Acts.{MoveActed}
 use Rattle.granule_rules.specs.Changes.{RealmAt}
 use Rattle.banks.specs.Banks.{Granules}
-use Rattle.banks.specs.declared.Granule.TheVariants.{At}
 use Rattle.granule_rules.specs.declared.Direction.{Direction}
 use Rattle.granule_rules.specs.declared.Direction.TheVariants.{Delegate, Undelegate}
 use Rattle.granule_rules.proofs.Acts.{move-only, move-acts}
@@ -25,10 +25,10 @@ other-stays g d t after a addr m r n =
       granule = r.granule;
       own = rw m.whole r.own;
       realm =
-          m.others r.granule (λ e. n (one_address g (length t.bytes) a addr m.granule m.own (r.own ∙ ap At e))) ∙ r.realm;
+          m.others r.granule (λ e. n (one_address g (length t.bytes) a addr m.granule m.own (r.own ∙ ap Some e))) ∙ r.realm;
     }
 
-one_index : (i j : ℕ) → At i ≡ At j → i ≡ j
+one_index : (i j : ℕ) → Some i ≡ Some j → i ≡ j
 one_index i j h = cc
 
 -- a granule that is Realm cannot be delegated

@@ -1,9 +1,8 @@
 -- What an accepted call of delegate or undelegate does (CM2.6, CM3.6). Assumes nothing.
-use Rattle.std.specs.Prelude.{ℕ, ◌≡◌, length, get_or}
+use Rattle.std.specs.Prelude.{ℕ, ◌≡◌, length, get_or, Some}
 use Rattle.banks.specs.Banks.{Granules, granule_at}
 use Rattle.realm_words.specs.Bits.{bit_at, realm_bit}
 use Rattle.granule_rules.specs.Granules.{GranuleTable, from_byte, to_byte}
-use Rattle.banks.specs.declared.Granule.TheVariants.{At}
 use Rattle.granule_rules.specs.declared.Direction.{Direction}
 use Rattle.granule_rules.specs.declared.Direction.TheVariants.{Delegate, Undelegate}
 
@@ -11,7 +10,7 @@ use Rattle.granule_rules.specs.declared.Direction.TheVariants.{Delegate, Undeleg
 -- E6: its bit is that of the new byte, for any bit before, and every other bit is unchanged
 pub record MoveActed (g : Granules) (d : Direction) (t after : GranuleTable) (addr : ℕ) : Type 0 where
   pub granule : ℕ
-  pub own : granule_at g (length t.bytes) addr ≡ At granule
+  pub own : granule_at g (length t.bytes) addr ≡ Some granule
   pub was : get_or t.bytes granule 0 ≡ from_byte d
   pub becomes : get_or after.bytes granule 0 ≡ to_byte d
   pub others : (j : ℕ) → (j ≡ granule → ⊥) → get_or after.bytes j 0 ≡ get_or t.bytes j 0

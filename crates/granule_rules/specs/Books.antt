@@ -1,9 +1,7 @@
 -- Request E14: "The books on granules. Operators expect them to balance." (BO1 to BO5) Assumes nothing.
-use Rattle.std.specs.Prelude.{ℕ, ◌+◌, ◌≡◌, List, [], ◌∷◌, ◌++◌, length, get_or}
+use Rattle.std.specs.Prelude.{ℕ, ◌+◌, ◌≡◌, List, [], ◌∷◌, ◌++◌, length, get_or, Some, Result}
 use Rattle.banks.specs.Banks.{Granules, granule_count, granule_at}
-use Rattle.banks.specs.declared.Granule.TheVariants.{At}
 use Rattle.realm_words.specs.Answers.{realm_count_of, realms}
-use Rattle.realm_words.specs.declared.Number.{Number}
 use Rattle.granule_rules.specs.Granules.{GranuleTable, to_byte}
 use Rattle.granule_rules.specs.Changes.{Change}
 use Rattle.granule_rules.specs.declared.Direction.{Direction}
@@ -33,7 +31,7 @@ undelegations (c ∷ cs) = losses c.way + undelegations cs
 -- ---- the bytes
 -- a call "naming it" (BO3): its address falls on granule i of a table of n
 abbrev pub Names : Granules → ℕ → ℕ → Change → Type 0
-Names g n i c = granule_at g n c.address ≡ At i
+Names g n i c = granule_at g n c.address ≡ Some i
 
 -- no change names granule i
 pub data NoneNames (g : Granules) (n i : ℕ) : List Change → Type 0 where
@@ -52,12 +50,12 @@ pub record Books (g : Granules) (t : GranuleTable) (cs : List Change) (after : G
   -- "or the starting byte if none did." (BO2)
   pub none : (i : ℕ) → NoneNames g (length t.bytes) i cs → get_or after.bytes i 0 ≡ get_or t.bytes i 0
   -- a byte of the table that no address names is unchanged (BO2)
-  pub unnamed : (i : ℕ) → ((a : ℕ) → granule_at g (length t.bytes) a ≡ At i → ⊥) → get_or after.bytes i 0 ≡ get_or t.bytes i 0
+  pub unnamed : (i : ℕ) → ((a : ℕ) → granule_at g (length t.bytes) a ≡ Some i → ⊥) → get_or after.bytes i 0 ≡ get_or t.bytes i 0
 
 -- the same for the count from the words (request E6): at the start and at the end it is a number, not INVAL, and the numbers balance (BO5)
 pub record CountBooks (g : Granules) (t : GranuleTable) (cs : List Change) (after : GranuleTable) : Type 0 where
   pub first : ℕ
   pub final : ℕ
-  pub at-start : realm_count_of t.words (granule_count g) ≡ Number.Count first
-  pub at-end : realm_count_of after.words (granule_count g) ≡ Number.Count final
+  pub at-start : realm_count_of t.words (granule_count g) ≡ Result.Ok first
+  pub at-end : realm_count_of after.words (granule_count g) ≡ Result.Ok final
   pub balance : first + delegations cs ≡ undelegations cs + final

@@ -1,10 +1,8 @@
 -- 0xC40001B0, B1: delegate, undelegate.
 -- "The granule table is one byte a granule ..: 0 Non-secure, 1 Realm, 2 Root, 3 Secure; other bytes are none of these (house codes)."
 -- (BN2) The banks decide the granule of an address (BN7). Assumes nothing.
-use Rattle.std.specs.Prelude.{ℕ, ◌≡◌, Bool, false, List, length, get_or, set, eqb}
+use Rattle.std.specs.Prelude.{ℕ, ◌≡◌, Bool, false, List, length, get_or, set, eqb, Option, Some, None}
 use Rattle.banks.specs.Banks.{Granules, granule_count, granule_at}
-use Rattle.banks.specs.declared.Granule.{Granule}
-use Rattle.banks.specs.declared.Granule.TheVariants.{Nothing, At}
 use Rattle.realm_words.specs.Bits.{realm_bit, put_bit, realm_words}
 use Rattle.realm_words.specs.Answers.{words_fit}
 use Rattle.boot.specs.declared.Params.{Params}
@@ -44,9 +42,9 @@ is_shared_page u Undelegate addr = eqb addr u.base
 
 -- "BAD_ADDR unless .. the address falls on a granule of the table. BAD_PAS unless that byte is 0 (delegate) or 1 (undelegate).", amended
 -- by request E8: "BAD_ADDR for that granule, right after the granule address check" (CM2.3, CM2.5, CM3.3 to CM3.5)
-unfoldable pub granule_code : Params → Direction → GranuleTable → ℕ → Granule → Code
-granule_code u d t addr Nothing = BadAddr
-granule_code u d t addr (At i) =
+unfoldable pub granule_code : Params → Direction → GranuleTable → ℕ → Option ℕ → Code
+granule_code u d t addr None = BadAddr
+granule_code u d t addr (Some i) =
     fails (is_shared_page u d addr) BadAddr
     (fails (is_false (eqb (get_or t.bytes i 0) (from_byte d))) BadPas
     Ok)
@@ -56,9 +54,9 @@ unfoldable pub move_code : Params → Granules → Direction → GranuleTable �
 move_code u g d t addr = granule_code u d t addr (granule_at g (length t.bytes) addr)
 
 -- the table with that granule's byte set. Request E6: "Delegate and undelegate write their granule's bit too and no other" (RW3)
-unfoldable pub granule_set : Direction → GranuleTable → Granule → GranuleTable
-granule_set d t Nothing = t
-granule_set d t (At i) = table_of (set t.bytes i (to_byte d)) (put_bit t.words i (realm_bit (to_byte d)))
+unfoldable pub granule_set : Direction → GranuleTable → Option ℕ → GranuleTable
+granule_set d t None = t
+granule_set d t (Some i) = table_of (set t.bytes i (to_byte d)) (put_bit t.words i (realm_bit (to_byte d)))
 
 -- the table after a call that is OK
 unfoldable pub moved : Granules → Direction → GranuleTable → ℕ → GranuleTable

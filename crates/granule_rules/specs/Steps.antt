@@ -1,7 +1,7 @@
 -- `shared-refused`, `shared-passed` (proofs/Moving.antt) and `list-refused` (proofs/Lists.antt) prove what `shared_code` is for `move_of` and
 -- `move_list_of`, `move_up` that `move_at` equals `move_of` after these checks. For `move_at`, whose caller passes a granule: `granule-inside`
 -- proves `Inside` for the granule of `granule_at`. Assumes nothing.
-use Rattle.std.specs.Prelude.{ℕ, ◌/◌, ◌<◌, ◌≡◌, List, length, ltb, eqb}
+use Rattle.std.specs.Prelude.{ℕ, ◌/◌, ◌<◌, ◌≡◌, List, length, ltb, eqb, Option, Some}
 use Rattle.words.specs.Tests.{both}
 use Rattle.boot.specs.declared.Params.{Params}
 use Rattle.boot.specs.declared.Record.{Record}
@@ -10,14 +10,12 @@ use Rattle.codes.specs.declared.Code.{Code}
 use Rattle.codes.specs.declared.Code.TheVariants.{Ok, Unk, BadAddr, Inval}
 use Rattle.realm_words.specs.Answers.{words_fit}
 use Rattle.banks.specs.Banks.{Granules, granule_count}
-use Rattle.banks.specs.declared.Granule.{Granule}
-use Rattle.banks.specs.declared.Granule.TheVariants.{At}
 use Rattle.granule_rules.specs.Granules.{GranuleTable, Moved, move_code, moved, moved_by}
 use Rattle.granule_rules.specs.declared.Direction.{Direction}
 
 -- a granule has a byte in the table, and a bit in the words
-abbrev pub Inside : Granule → (bytes words : List ℕ) → Type 0
-Inside k bytes words = (i : ℕ) → k ≡ At i → (i < length bytes) × (i / 64 < length words)
+abbrev pub Inside : Option ℕ → (bytes words : List ℕ) → Type 0
+Inside k bytes words = (i : ℕ) → k ≡ Some i → (i < length bytes) × (i / 64 < length words)
 
 -- the code of the checks that do not depend on the address, with a table of n bytes: the number of words, the boot record, and the table's
 -- length, which no address gets past unless the record has n granules

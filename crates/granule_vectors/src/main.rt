@@ -11,7 +11,7 @@ ghost use Rattle.std.specs.Prelude.{◌≤◌, length};
 
 use boot::Record;
 use codes::Answer;
-use realm_words::{Agreement, Hit, Number};
+use realm_words::Inval;
 use vector_io::STDOUT;
 use words::Span;
 
@@ -75,10 +75,10 @@ fn print_list(input: &[u8], table: &mut [u8], words: &mut [u64], list: &mut [u64
 
 // ---- The realm words ----
 
-fn print_number(number: Number) {
+fn print_number(number: Result<u64, Inval>) {
     match number {
-        Number::Inval => print(b"count INVAL\n"),
-        Number::Count(n) => {
+        Err(Inval) => print(b"count INVAL\n"),
+        Ok(n) => {
             print(b"count ");
             io::print_decimal(STDOUT, n);
             print(b"\n");
@@ -86,11 +86,11 @@ fn print_number(number: Number) {
     }
 }
 
-fn print_hit(hit: Hit) {
+fn print_hit(hit: Result<Option<usize>, Inval>) {
     match hit {
-        Hit::Inval => print(b"next INVAL\n"),
-        Hit::Nothing => print(b"next none\n"),
-        Hit::At(index) => {
+        Err(Inval) => print(b"next INVAL\n"),
+        Ok(None) => print(b"next none\n"),
+        Ok(Some(index)) => {
             print(b"next ");
             io::print_decimal(STDOUT, index as u64);
             print(b"\n");
@@ -98,20 +98,19 @@ fn print_hit(hit: Hit) {
     }
 }
 
-fn print_agreement(agreement: Agreement) {
+fn print_agreement(agreement: Result<bool, Inval>) {
     match agreement {
-        Agreement::Inval => print(b"agrees INVAL\n"),
-        Agreement::No => print(b"agrees no\n"),
-        Agreement::Yes => print(b"agrees yes\n"),
+        Err(Inval) => print(b"agrees INVAL\n"),
+        Ok(false) => print(b"agrees no\n"),
+        Ok(true) => print(b"agrees yes\n"),
     }
 }
 
-fn print_built(done: bool) {
-    if done {
-        print(b"build OK\n");
-        return;
+fn print_built(built: Result<(), Inval>) {
+    match built {
+        Err(Inval) => print(b"build INVAL\n"),
+        Ok(()) => print(b"build OK\n"),
     }
-    print(b"build INVAL\n");
 }
 
 // Prints the count, the next Realm granule at or after the case's index, and whether words and table agree; then builds the words.
@@ -130,9 +129,9 @@ fn print_realm(input: &[u8], table: &[u8], words: &mut [u64]) {
 
 fn print_record(granules: &[u64; 33]) {
     print(b"record");
-    for i in 0..33usize {
+    for word in granules {
         print(b" ");
-        io::print_hex(STDOUT, granules[i], 1);
+        io::print_hex(STDOUT, *word, 1);
     }
     print(b"\n");
 }

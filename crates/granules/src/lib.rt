@@ -9,44 +9,14 @@ ghost use Rattle.banks.specs.Banks.{Granules, granule_count, granule_at};
 ghost use Rattle.banks.specs.Fast.{has_one_bank};
 ghost use Rattle.realm_words.specs.Answers.{words_fit, words_code};
 ghost use Rattle.realm_words.specs.Bits.{realm_bit, put_bit};
-ghost use Rattle.granule_rules.specs.Granules.{table_of, from_byte, to_byte, is_shared_page, move_of, delegate_of, undelegate_of, moved_to};
+ghost use Rattle.granule_rules.specs.Granules.{table_of, move_of, delegate_of, undelegate_of, moved_to};
 ghost use Rattle.granule_rules.specs.Steps.{Inside, shared_code, move_at};
 ghost use Rattle.granule_rules.specs.Lists.{list_by, move_list_of, delegate_list_of, undelegate_list_of};
 
-use banks::{Granule, GranulesImage};
+use banks::GranulesImage;
 use boot::{Params, Record};
 use codes::{Answer, Code};
 pub use granule_rules::Direction;
-
-// Returns the byte that a granule must have.
-fn from_byte(direction: Direction) -> u8
-    ensures { result ≡ from_byte direction }
-{
-    match direction {
-        Direction::Delegate => 0,
-        Direction::Undelegate => 1,
-    }
-}
-
-// Returns the byte that a granule gets.
-fn to_byte(direction: Direction) -> u8
-    ensures { result ≡ to_byte direction }
-{
-    match direction {
-        Direction::Delegate => 1,
-        Direction::Undelegate => 0,
-    }
-}
-
-// Whether a call would undelegate the shared page, which must stay Realm (SH1).
-fn is_shared_page(params: Params, direction: Direction, address: u64) -> bool
-    ensures { result ≡ is_shared_page params direction address }
-{
-    match direction {
-        Direction::Delegate => false,
-        Direction::Undelegate => address == params.base,
-    }
-}
 
 // Writes the bit of granule `index` for its new byte. Does not check the number of words: each call has checked it once.
 fn put_bit(words: &mut [u64], index: usize, byte: u8)
@@ -60,7 +30,7 @@ fn put_bit(words: &mut [u64], index: usize, byte: u8)
 // Moves the granule of `address`, with the parameters of a boot record that is up.
 fn move_at(
     params: Params,
-    granule: Granule,
+    granule: Option<usize>,
     direction: Direction,
     table: &mut [u8],
     words: &mut [u64],
@@ -70,18 +40,16 @@ fn move_at(
     ensures { (g : Granules) → granule ≡ granule_at g (length table.old) address →
         moved_to (answer_of result 0 0) table.new words.new ≡ move_at params g direction (table_of table.old words.old) address }
 {
-    let Granule::At(at) = granule else {
+    let Some(at) = granule else {
         return Code::BadAddr; // no granule of the table
     };
-    if is_shared_page(params, direction, address) {
+    if direction.is_shared_page(params, address) {
         return Code::BadAddr;
     }
-    let from = from_byte(direction);
-    let to = to_byte(direction);
-    let byte = table[at];
-    if byte != from {
+    if table[at] != direction.from_byte() {
         return Code::BadPas;
     }
+    let to = direction.to_byte();
     table[at] = to;
     put_bit(words, at, to);
     Code::Ok
@@ -91,13 +59,7 @@ fn move_at(
 fn table_fits(count: u64, n: usize) -> bool
     ensures { result ≡ both (ltb 0 count) (eqb count n) }
 {
-    if count == 0 {
-        return false;
-    }
-    if count != n as u64 {
-        return false;
-    }
-    true
+    0 < count && count == n as u64
 }
 
 // Makes the checks that do not depend on the address, in order: the number of words, the boot record, the table's length.
@@ -135,8 +97,7 @@ fn move_one(
     }
     let params = codes::boot_params(state);
     let found = banks::find_from(granules, banks::no_bank(), address);
-    let granule = found.granule;
-    move_at(params, granule, direction, table, words, address)
+    move_at(params, found.granule, direction, table, words, address)
 }
 
 // ---- the shortcut for a single call: most boards have one bank ----
@@ -145,13 +106,7 @@ fn move_one(
 fn takes_shortcut(state: Record, granules: &GranulesImage, n: usize, words: &[u64]) -> bool
     ensures { result ≡ both (is_up state) (both (has_one_bank granules.now n) (words_fit words.now n)) }
 {
-    if !codes::is_up(state) {
-        return false;
-    }
-    if !banks::has_one_bank(granules, n) {
-        return false;
-    }
-    realm_words::words_fit(words, n)
+    codes::is_up(state) && banks::has_one_bank(granules, n) && realm_words::words_fit(words, n)
 }
 
 // `move_one` without loops over the banks.
@@ -171,6 +126,25 @@ fn move_shortcut(
     move_at(params, granule, direction, table, words, address)
 }
 
+// A call in either direction.
+fn single(
+    state: Record,
+    granules: &GranulesImage,
+    direction: Direction,
+    table: &mut [u8],
+    words: &mut [u64],
+    address: u64,
+) -> Answer
+    ensures { moved_to result table.new words.new ≡ move_of state granules.now direction (table_of table.old words.old) address }
+{
+    if takes_shortcut(state, granules, table.len(), words) {
+        let code = move_shortcut(state, granules, direction, table, words, address);
+        return codes::answer_with(code, 0, 0);
+    }
+    let code = move_one(state, granules, direction, table, words, address);
+    codes::answer_with(code, 0, 0)
+}
+
 // ---- a list of calls ----
 
 // Makes the single calls of a list in order, up to the first refusal; x1 is the number of granules moved. `move_list` has made the checks
@@ -186,19 +160,16 @@ fn move_each(
     requires { (0 < granule_count granules.now) × (granule_count granules.now ≡ length table.old) × Yes (words_fit words.old (granule_count granules.now)) }
     ensures { moved_to result table.new words.new ≡ list_by (move_at params granules.now direction) 0 (table_of table.old words.old) addresses.now }
 {
-    let n = addresses.len();
     let mut bank = banks::no_bank();
-    for i in 0..n {
-        let address = addresses[i];
-        let found = banks::find_from(granules, bank, address);
-        let granule = found.granule;
-        let code = move_at(params, granule, direction, table, words, address);
+    for (i, address) in addresses.iter().enumerate() {
+        let found = banks::find_from(granules, bank, *address);
+        let code = move_at(params, found.granule, direction, table, words, *address);
         if !codes::is_ok(code) {
             return codes::answer_with(code, i as u64, 0);
         }
         bank = found.bank;
     }
-    codes::answer_with(Code::Ok, n as u64, 0)
+    codes::answer_with(Code::Ok, addresses.len() as u64, 0)
 }
 
 // An empty list is OK if the number of words is right, even if the boot record is not up.
@@ -222,7 +193,7 @@ fn move_list(
 ) -> Answer
     ensures { moved_to result table.new words.new ≡ move_list_of state granules.now direction (table_of table.old words.old) addresses.now }
 {
-    if addresses.len() == 0 {
+    if addresses.is_empty() {
         return move_none(granules, words);
     }
     let code = shared_code(state, granules, table.len(), words);
@@ -245,12 +216,7 @@ pub fn delegate(
 ) -> Answer
     ensures { moved_to result table.new words.new ≡ delegate_of state granules.now (table_of table.old words.old) address }
 {
-    if takes_shortcut(state, granules, table.len(), words) {
-        let code = move_shortcut(state, granules, Direction::Delegate, table, words, address);
-        return codes::answer_with(code, 0, 0);
-    }
-    let code = move_one(state, granules, Direction::Delegate, table, words, address);
-    codes::answer_with(code, 0, 0)
+    single(state, granules, Direction::Delegate, table, words, address)
 }
 
 // 0xC40001B1 (CM3): makes the granule at `address` Non-secure, if it is Realm.
@@ -263,26 +229,14 @@ pub fn undelegate(
 ) -> Answer
     ensures { moved_to result table.new words.new ≡ undelegate_of state granules.now (table_of table.old words.old) address }
 {
-    if takes_shortcut(state, granules, table.len(), words) {
-        let code = move_shortcut(
-            state,
-            granules,
-            Direction::Undelegate,
-            table,
-            words,
-            address,
-        );
-        return codes::answer_with(code, 0, 0);
-    }
-    let code = move_one(
+    single(
         state,
         granules,
         Direction::Undelegate,
         table,
         words,
         address,
-    );
-    codes::answer_with(code, 0, 0)
+    )
 }
 
 // Delegates the granules at `addresses` in order, up to the first refusal; x1 is the number delegated (LG1 to LG3).

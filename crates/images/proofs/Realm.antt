@@ -12,10 +12,10 @@ use Rattle.words.specs.Tests.{both}
 use Rattle.boot.proofs.Reasons.{test-holds, test-fails, line}
 use Rattle.codes.specs.Codes.{extended, x0_of, is_false}
 use Rattle.codes.specs.Reasons.{Gives}
-use Rattle.realm_words.specs.declared.Number.{Number}
-use Rattle.realm_words.specs.declared.Hit.{Hit}
-use Rattle.realm_words.specs.declared.Agreement.{Agreement}
+use Rattle.std.specs.Prelude.{Option, Some, None, Result}
+use Rattle.realm_words.specs.declared.Inval.{Inval}
 use Rattle.realm_words.specs.Bits.{bit_at, words_for, realm_words}
+use Rattle.realm_words.specs.Answers as answers
 use Rattle.realm_words.specs.Answers.{words_fit, marked, realm_count_of, realm_next_of, same_words, realm_agree_of, Built, realm_build_of, realm_at}
 use Rattle.realm_words.specs.Answers.{realms, FirstAt, NoneFrom, WordsAgree}
 use Rattle.realm_words.proofs.Agreeing.{same-is, is_same}
@@ -30,37 +30,37 @@ abbrev inval : ℕ
 inval = 0xFFFF_FFFF_FFFF_FFFB
 
 -- ---- the answer for a number and a word
-abbrev pub number_read : ℕ → List ℕ → Number
-number_read x0 w = cond (eqb x0 0) (Number.Count (get_or w 0 0)) Number.Inval
+abbrev pub number_read : ℕ → List ℕ → Result ℕ Inval
+number_read x0 w = cond (eqb x0 0) (Result.Ok (get_or w 0 0)) (Result.Err answers.inval)
 
-pub number-told : (n : Number) → number_read (number_x0 n) (number_words n) ≡ n
+pub number-told : (n : Result ℕ Inval) → number_read (number_x0 n) (number_words n) ≡ n
 unfolding number_x0 number_words x0_of extended
-number-told (Number.Count n) = refl
-number-told Number.Inval = refl
+number-told (Result.Ok n) = refl
+number-told (Result.Err e) = refl
 
-abbrev pub hit_read : ℕ → List ℕ → Hit
-hit_read x0 w = cond (eqb x0 0) (Hit.At (get_or w 0 0)) (cond (eqb x0 1) Hit.Nothing Hit.Inval)
+abbrev pub hit_read : ℕ → List ℕ → Result (Option ℕ) Inval
+hit_read x0 w = cond (eqb x0 0) (Result.Ok (Some (get_or w 0 0))) (cond (eqb x0 1) (Result.Ok None) (Result.Err answers.inval))
 
-pub hit-told : (h : Hit) → hit_read (hit_x0 h) (hit_words h) ≡ h
+pub hit-told : (h : Result (Option ℕ) Inval) → hit_read (hit_x0 h) (hit_words h) ≡ h
 unfolding hit_x0 hit_words x0_of extended
-hit-told (Hit.At i) = refl
-hit-told Hit.Nothing = refl
-hit-told Hit.Inval = refl
+hit-told (Result.Ok (Some i)) = refl
+hit-told (Result.Ok None) = refl
+hit-told (Result.Err e) = refl
 
 -- ---- the numbers
-pub number-x0 : (n : ℕ) → (number_x0 (Number.Count n) ≡ 0) × (number_x0 Number.Inval ≡ inval)
+pub number-x0 : (n : ℕ) → (number_x0 (Result.Ok n) ≡ 0) × (number_x0 (Result.Err answers.inval) ≡ inval)
 unfolding number_x0 x0_of extended
 number-x0 n = (refl, refl)
 
-pub hit-x0 : (i : ℕ) → (hit_x0 (Hit.At i) ≡ 0) × (hit_x0 Hit.Nothing ≡ 1) × (hit_x0 Hit.Inval ≡ inval)
+pub hit-x0 : (i : ℕ) → (hit_x0 (Result.Ok (Some i)) ≡ 0) × (hit_x0 (Result.Ok None) ≡ 1) × (hit_x0 (Result.Err answers.inval) ≡ inval)
 unfolding hit_x0 x0_of extended
 hit-x0 i = (refl, refl, refl)
 
-pub agreement-x0 : (agreement_x0 Agreement.Yes ≡ 0) × (agreement_x0 Agreement.No ≡ 1) × (agreement_x0 Agreement.Inval ≡ inval)
+pub agreement-x0 : (agreement_x0 (Result.Ok true) ≡ 0) × (agreement_x0 (Result.Ok false) ≡ 1) × (agreement_x0 (Result.Err answers.inval) ≡ inval)
 unfolding agreement_x0 x0_of extended
 agreement-x0 = (refl, refl, refl)
 
-pub built-x0 : (built_x0 true ≡ 0) × (built_x0 false ≡ inval)
+pub built-x0 : (built_x0 (Result.Ok tt) ≡ 0) × (built_x0 (Result.Err answers.inval) ≡ inval)
 unfolding built_x0 x0_of extended
 built-x0 = (refl, refl)
 
@@ -86,10 +86,15 @@ unequal : (a b c next : ℕ) (below : ℕ → Type 0) → (a ≡ b → below nex
 unequal a b c next below h =
     line (eqb a b) _ c next below (λ n. ne_eqb a b n) (test-holds _ _ (λ e. eq-eqb a b e)) (λ y. h (eqb-true a b y))
 
+agreed : (s : Bool) → agreement_x0 (Result.Ok s) ≡ cond s 0 1
+unfolding agreement_x0 x0_of extended
+agreed true = refl
+agreed false = refl
+
 pub count-codes : (ws : List ℕ) (n : ℕ) → Gives (Fitting ws n → ⊥) inval (λ k. k ≡ 0) (number_x0 (realm_count_of ws n))
 unfolding realm_count_of words_for number_x0 x0_of extended
 count-codes ws n =
-    rw (through number_x0 (words_fit ws n) (Number.Count (marked (bit_at ws) n)) Number.Inval)
+    rw (through number_x0 (words_fit ws n) (Result.Ok (marked (bit_at ws) n)) (Result.Err answers.inval))
     (unequal (length ws) ((n + 63) / 64) inval 0 _ (λ e. refl))
 
 pub next-codes : (ws : List ℕ) (n i : ℕ) →
@@ -107,9 +112,9 @@ next-codes ws n i = go (realm_next_of ws n i) refl
     below : (a b : ℕ) → ((a < b → ⊥) → ⊥) → a < b
     below a b h = ltb-true a b (test-holds _ _ (λ l. lt-ltb a b l) h)
 
-    go : (h : Hit) → realm_next_of ws n i ≡ h → Gives (Fitting ws n → ⊥) inval
+    go : (h : Result (Option ℕ) Inval) → realm_next_of ws n i ≡ h → Gives (Fitting ws n → ⊥) inval
         (Gives (i < n → ⊥) inval (Gives (NoneFrom (bit_at ws) n i) 1 (λ k. k ≡ 0))) (hit_x0 h)
-    go (Hit.At j) e =
+    go (Result.Ok (Some j)) e =
         let f = next-first ws n i j e in
         record {
           where-it-holds = λ x. absurd (x f.0.0);
@@ -120,7 +125,7 @@ next-codes ws n i = go (realm_next_of ws n i) refl
                     record { where-it-holds = λ z. absurd (z j f.1.from f.1.below f.1.marks); elsewhere = λ z. refl };
               };
         }
-    go Hit.Nothing e =
+    go (Result.Ok None) e =
         let f = next-none ws n i e in
         record {
           where-it-holds = λ x. absurd (x f.0.0);
@@ -131,11 +136,11 @@ next-codes ws n i = go (realm_next_of ws n i) refl
                     record { where-it-holds = λ z. refl; elsewhere = λ z. absurd (z f.1) };
               };
         }
-    go Hit.Inval e =
+    go (Result.Err x) e =
         record {
-          where-it-holds = λ x. refl;
-          elsewhere = λ x.
-              record { where-it-holds = λ y. refl; elsewhere = λ y. absurd (next-inval ws n i e (sure _ _ x, below _ _ y)) };
+          where-it-holds = λ z. refl;
+          elsewhere = λ z.
+              record { where-it-holds = λ y. refl; elsewhere = λ y. absurd (next-inval ws n i e (sure _ _ z, below _ _ y)) };
         }
 
 -- for 64-bit words
@@ -148,10 +153,10 @@ pub agree-codes : (t ws : List ℕ) (n : ℕ) → ((k : ℕ) → get_or ws k 0 <
 unfolding realm_agree_of words_for agreement_x0 x0_of extended
 agree-codes t ws n small =
     rw (through-both agreement_x0 (words_fit ws n) (eqb (length t) n)
-    (cond (same_words ws (realm_words t)) Agreement.Yes Agreement.No) Agreement.Inval)
+    (Result.Ok (same_words ws (realm_words t))) (Result.Err answers.inval))
     (unequal (length ws) ((n + 63) / 64) inval _ _ (λ l.
     unequal (length t) n inval _ _ (λ m.
-    rw (through agreement_x0 (same_words ws (realm_words t)) Agreement.Yes Agreement.No)
+    rw (agreed (same_words ws (realm_words t)))
     (line (same_words ws (realm_words t)) _ 1 0 _ (test-fails _ _ (λ y. rw (same-is ws (realm_words t) y) (words-agree t)))
     (test-holds _ _ (λ a. let e : ws ≡ realm_words t = agree-words t ws (l ∙ rw (← m)) small a in rw (← e) (is_same ws)))
     (λ y. refl)))))
@@ -163,8 +168,8 @@ pub build-codes : (t ws : List ℕ) (n : ℕ) →
     (built_x0 (realm_build_of t ws n).done)
 unfolding realm_build_of words_for built_x0 x0_of extended
 build-codes t ws n =
-    rw (through-both (λ (b : Built). built_x0 b.done) (words_fit ws n) (eqb (length t) n) (record { done = true; words = realm_words t })
-    (record { done = false; words = ws }))
+    rw (through-both (λ (b : Built). built_x0 b.done) (words_fit ws n) (eqb (length t) n) (record { done = Result.Ok tt; words = realm_words t })
+    (record { done = Result.Err answers.inval; words = ws }))
     (unequal (length ws) ((n + 63) / 64) inval _ _ (λ l.
     unequal (length t) n inval 0 _ (λ m. refl)))
 

@@ -13,7 +13,7 @@ use boot::{Params, Record};
 use codes::{Answer, Code, Work};
 use fields::FieldPlace;
 use reader::{Section, View};
-use realm_words::{Agreement, Hit, Number};
+use realm_words::Inval;
 use token::Session;
 use words::Span;
 use writer::WriteError;
@@ -204,64 +204,70 @@ pub fn console_number(found: Option<usize>) -> usize
 }
 
 // x0 of a count of Realm granules: OK or INVAL.
-pub fn number_x0(number: Number) -> u64
+#[tactic(auto, unfolding(crate::specs::Realm::number_x0))]
+pub fn number_x0(number: Result<u64, Inval>) -> u64
     ensures { result ≡ number_x0 number }
 {
     match number {
-        Number::Inval => codes::x0(Code::Inval),
-        Number::Count(_) => codes::x0(Code::Ok),
+        Ok(_) => codes::x0(Code::Ok),
+        Err(Inval) => codes::x0(Code::Inval),
     }
 }
 
 // The count of Realm granules, 0 if refused.
-pub fn number_words(number: Number) -> [u64; 1]
+#[tactic(auto, unfolding(crate::specs::Realm::number_words))]
+pub fn number_words(number: Result<u64, Inval>) -> [u64; 1]
     ensures { result ≡ number_words number }
 {
     match number {
-        Number::Inval => [0],
-        Number::Count(n) => [n],
+        Ok(n) => [n],
+        Err(Inval) => [0],
     }
 }
 
 // x0 of a search for the next Realm granule: OK, INVAL, or 1 for no such granule.
-pub fn hit_x0(hit: Hit) -> u64
+#[tactic(auto, unfolding(crate::specs::Realm::hit_x0))]
+pub fn hit_x0(hit: Result<Option<usize>, Inval>) -> u64
     ensures { result ≡ hit_x0 hit }
 {
     match hit {
-        Hit::Inval => codes::x0(Code::Inval),
-        Hit::Nothing => 1,
-        Hit::At(_) => codes::x0(Code::Ok),
+        Ok(Some(_)) => codes::x0(Code::Ok),
+        Ok(None) => 1,
+        Err(Inval) => codes::x0(Code::Inval),
     }
 }
 
 // The index of the granule found, 0 if no granule was found.
-pub fn hit_words(hit: Hit) -> [u64; 1]
+#[tactic(auto, unfolding(crate::specs::Realm::hit_words))]
+pub fn hit_words(hit: Result<Option<usize>, Inval>) -> [u64; 1]
     ensures { result ≡ hit_words hit }
 {
     match hit {
-        Hit::Inval => [0],
-        Hit::Nothing => [0],
-        Hit::At(index) => [index as u64],
+        Ok(Some(index)) => [index as u64],
+        Ok(None) => [0],
+        Err(Inval) => [0],
     }
 }
 
 // x0 of a comparison of realm words and table: OK if they agree, 1 if they differ, or INVAL.
-pub fn agreement_x0(agreement: Agreement) -> u64
+#[tactic(auto, unfolding(crate::specs::Realm::agreement_x0))]
+pub fn agreement_x0(agreement: Result<bool, Inval>) -> u64
     ensures { result ≡ agreement_x0 agreement }
 {
     match agreement {
-        Agreement::Inval => codes::x0(Code::Inval),
-        Agreement::No => 1,
-        Agreement::Yes => codes::x0(Code::Ok),
+        Ok(true) => codes::x0(Code::Ok),
+        Ok(false) => 1,
+        Err(Inval) => codes::x0(Code::Inval),
     }
 }
 
-// x0 of building the realm words: OK if `done`, otherwise INVAL.
-pub fn built_x0(done: bool) -> u64
-    ensures { result ≡ built_x0 done }
+// x0 of building the realm words: OK or INVAL.
+#[tactic(auto, unfolding(crate::specs::Realm::built_x0))]
+pub fn built_x0(built: Result<(), Inval>) -> u64
+    ensures { result ≡ built_x0 built }
 {
-    if done {
-        return codes::x0(Code::Ok);
+    match built {
+        Ok(()) => codes::x0(Code::Ok),
+        Err(Inval) => codes::x0(Code::Inval),
     }
-    codes::x0(Code::Inval)
 }

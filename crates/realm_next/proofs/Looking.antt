@@ -9,7 +9,7 @@ use lib.ListN.{get_or}
 use lib.Count.{count_trailing_zeros}
 use lib.Pow.{mod-pow-add}
 use borrow.Author.Tests.{lt-ltb, le-ltb}
-use Rattle.realm_words.specs.declared.Hit.{Hit}
+use Rattle.std.specs.Prelude.{None}
 use Rattle.realm_words.specs.Bits.{bit_of, bit_at, words_for}
 use Rattle.realm_words.specs.Answers.{first_marked}
 use Rattle.realm_words.proofs.Bits.{bit-zero, bit-suc}
@@ -28,7 +28,7 @@ first-skip f (suc m) k i h =
     let b : suc i + m ≡ i + suc m = omega arith in
     rw (a, h i (omega arith) (omega arith), ← b) (first-skip f m k (suc i) (λ j l u. h j (omega arith) (omega arith)))
 
-first-none : (f : ℕ → ℕ) (n i : ℕ) → i ≤ n → Clear f i n → first_marked f (n - i) i ≡ Hit.Nothing
+first-none : (f : ℕ → ℕ) (n i : ℕ) → i ≤ n → Clear f i n → first_marked f (n - i) i ≡ None
 unfolding first_marked
 first-none f n i l h = rw add-zero at (first-skip f (n - i) 0 i (λ j a b. h j a (omega arith)))
 
@@ -120,7 +120,7 @@ module _ (ws : List ℕ) (n i at bits : ℕ) (k : Look ws n i at bits) where
           held = λ j l c. rw e (bit_in ws (at + 1) j l);
         }
 
-    pub look_none : i < n → words_for n ≤ at + 1 → first_marked (bit_at ws) (n - i) i ≡ Hit.Nothing
+    pub look_none : i < n → words_for n ≤ at + 1 → first_marked (bit_at ws) (n - i) i ≡ None
     unfolding words_for
     look_none p h = first-none (bit_at ws) n i (omega arith) (λ j a b. clear j a (omega arith))
 

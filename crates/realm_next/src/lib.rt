@@ -3,10 +3,10 @@
 
 ghost use Rattle.std.specs.Prelude.{◌≡◌, ◌-◌, ◌%◌, ◌^◌, ◌<◌};
 ghost use Rattle.std.specs.Int.Count.{count_trailing_zeros};
-ghost use Rattle.realm_words.specs.Answers.{hit_code, index_code, realm_next_of};
+ghost use Rattle.realm_words.specs.Answers.{code_of, index_code, realm_next_of};
 ghost use Rattle.realm_next.specs.Steps.{hit_below};
 
-use realm_words::Hit;
+use realm_words::Inval;
 
 // ---- one word ----
 
@@ -27,36 +27,33 @@ fn high_bits(w: u64, k: usize) -> u64
 
 // ---- the search ----
 
-// Returns a hit at `index`, or nothing if that is a spare bit (`index` >= `granules`).
-fn hit_below(granules: usize, index: usize) -> Hit
+// Returns `index`, or nothing if that is a spare bit (`index` >= `granules`).
+fn hit_below(granules: usize, index: usize) -> Option<usize>
     ensures { result ≡ hit_below granules index }
 {
-    if index < granules {
-        return Hit::At(index);
-    }
-    Hit::Nothing
+    if index < granules { Some(index) } else { None }
 }
 
 // Returns the first Realm granule at or after `index`. Reads one word per step and no word after that of the hit. A set spare bit is no
 // hit.
-pub fn next(words: &[u64], granules: usize, index: usize) -> Hit
+pub fn next(words: &[u64], granules: usize, index: usize) -> Result<Option<usize>, Inval>
     ensures value { result ≡ realm_next_of words.now granules index }
-    ensures result_value { hit_code result ≡ index_code words.now granules index }
+    ensures result_value { code_of result ≡ index_code words.now granules index }
 {
     if !realm_words::words_fit(words, granules) {
-        return Hit::Inval;
+        return Err(Inval);
     }
     if granules <= index {
-        return Hit::Inval;
+        return Err(Inval);
     }
     let mut at = index / realm_words::WORD_GRANULES;
     let mut bits = high_bits(words[at], index % realm_words::WORD_GRANULES);
     while bits == 0 {
         at += 1;
         if words.len() <= at {
-            return Hit::Nothing;
+            return Ok(None);
         }
         bits = words[at];
     }
-    hit_below(granules, at * realm_words::WORD_GRANULES + first_bit(bits))
+    Ok(hit_below(granules, at * realm_words::WORD_GRANULES + first_bit(bits)))
 }

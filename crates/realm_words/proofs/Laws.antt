@@ -12,10 +12,10 @@ use lib.Seq.{get_or-set_same, get_or-set_other, set_out, take-set-lt, take-set-l
 use borrow.Author.Tests.{lt-ltb, eq-eqb}
 use Rattle.words.specs.Tests.{both, Yes}
 use Rattle.words.proofs.Tests.{both_of}
-use Rattle.realm_words.specs.declared.Number.{Number}
-use Rattle.realm_words.specs.declared.Agreement.{Agreement}
+use Rattle.std.specs.Prelude.{Result}
+use Rattle.realm_words.specs.declared.Inval.{Inval}
 use Rattle.realm_words.specs.Bits.{bit_of, bit_at, with_bit, put_bit, realm_bit, packed, packed_to, words_for, realm_words}
-use Rattle.realm_words.specs.Answers.{both_fit, same_words, marked, first_marked, realm_count_of, realm_next_of, realm_agree_of, realm_build_of}
+use Rattle.realm_words.specs.Answers.{inval, both_fit, same_words, marked, first_marked, realm_count_of, realm_next_of, realm_agree_of, realm_build_of}
 use Rattle.realm_words.specs.Answers.{realm_at, realms, next_realm}
 use Rattle.realm_words.proofs.Bits.{bit-same, bit-other, with-zero, with-suc}
 use Rattle.realm_words.proofs.Packing.{realm-le, bit-agrees, words-length}
@@ -43,17 +43,17 @@ marked-realms [] = refl
 marked-realms (b ∷ t) = marked-front (realm_at (b ∷ t)) (length t) ∙ rw (marked-realms t)
 
 -- ---- "If words and table agree the answers equal those of the full walk"
-pub count-agrees : (t : List ℕ) → realm_count_of (realm_words t) (length t) ≡ Number.Count (realms t)
+pub count-agrees : (t : List ℕ) → realm_count_of (realm_words t) (length t) ≡ Result.Ok (realms t)
 unfolding realm_count_of
 count-agrees t =
     rw (eq-eqb (length (realm_words t)) (words_for (length t)) (words-length (words_for (length t)) t))
-    (ap Number.Count (marked-same (bit_at (realm_words t)) (realm_at t) (length t) (bit-agrees t) ∙ marked-realms t))
+    (ap Result.Ok (marked-same (bit_at (realm_words t)) (realm_at t) (length t) (bit-agrees t) ∙ marked-realms t))
 
-pub next-agrees : (t : List ℕ) (i : ℕ) → i < length t → realm_next_of (realm_words t) (length t) i ≡ next_realm t i
+pub next-agrees : (t : List ℕ) (i : ℕ) → i < length t → realm_next_of (realm_words t) (length t) i ≡ Result.Ok (next_realm t i)
 unfolding realm_next_of both
 next-agrees t i h =
     rw (eq-eqb (length (realm_words t)) (words_for (length t)) (words-length (words_for (length t)) t), lt-ltb i (length t) h)
-    (first-same (bit_at (realm_words t)) (realm_at t) (length t - i) i (λ j l. bit-agrees t j (omega arith)))
+    (ap Result.Ok (first-same (bit_at (realm_words t)) (realm_at t) (length t - i) i (λ j l. bit-agrees t j (omega arith))))
 
 -- ---- "write their granule's bit too and no other", for any words before
 pub realm-lt : (b : ℕ) → realm_bit b < 2
@@ -121,40 +121,39 @@ words-put t i v h = rw length-set (to-put ((length t + 63) / 64) t i v h (omega 
 fit-both : (t ws : List ℕ) → length ws ≡ words_for (length t) → Yes (both_fit t ws (length t))
 fit-both t ws e = both_of _ _ (eq-eqb (length ws) (words_for (length t)) e) (eq-eqb (length t) (length t) refl)
 
--- words that agree with their table get Yes
-pub agree-yes : (t : List ℕ) → realm_agree_of t (realm_words t) (length t) ≡ Agreement.Yes
+-- words that agree with their table get true
+pub agree-yes : (t : List ℕ) → realm_agree_of t (realm_words t) (length t) ≡ Result.Ok true
 unfolding realm_agree_of
 agree-yes t = rw (fit-both t (realm_words t) (words-length (words_for (length t)) t), is_same (realm_words t))
 
--- no other words get Yes
-pub agree-told : (t ws : List ℕ) (n : ℕ) → realm_agree_of t ws n ≡ Agreement.Yes → ws ≡ realm_words t
+-- no other words get true
+pub agree-told : (t ws : List ℕ) (n : ℕ) → realm_agree_of t ws n ≡ Result.Ok true → ws ≡ realm_words t
 unfolding realm_agree_of
-agree-told t ws n = go (both_fit t ws n) (same_words ws (realm_words t)) refl
+agree-told t ws n = go (both_fit t ws n)
   where
-    go : (b s : Bool) → same_words ws (realm_words t) ≡ s → cond b (cond s Agreement.Yes Agreement.No) Agreement.Inval ≡ Agreement.Yes →
+    go : (b : Bool) → cond {A = Result Bool Inval} b (Result.Ok (same_words ws (realm_words t))) (Result.Err inval) ≡ Result.Ok true →
         ws ≡ realm_words t
-    go true true e h = same-is ws (realm_words t) e
-    go true false e h = let z : ◌≡◌ {A = ℕ} 0 1 = cc in absurd (omega arith)
-    go false s e h = let z : ◌≡◌ {A = ℕ} 0 1 = cc in absurd (omega arith)
+    go true h = let e : same_words ws (realm_words t) ≡ true = cc in same-is ws (realm_words t) e
+    go false h = let z : ◌≡◌ {A = ℕ} 0 1 = cc in absurd (omega arith)
 
--- a table of another length does not get Yes
-pub agree-sized : (t ws : List ℕ) (n : ℕ) → realm_agree_of t ws n ≡ Agreement.Yes → length t ≡ n
+-- a table of another length does not get true
+pub agree-sized : (t ws : List ℕ) (n : ℕ) → realm_agree_of t ws n ≡ Result.Ok true → length t ≡ n
 unfolding realm_agree_of
 agree-sized t ws n = go (both_fit t ws n) refl
   where
-    go : (b : Bool) → both_fit t ws n ≡ b → cond b (cond (same_words ws (realm_words t)) Agreement.Yes Agreement.No) Agreement.Inval ≡
-        Agreement.Yes → length t ≡ n
+    go : (b : Bool) → both_fit t ws n ≡ b →
+        cond {A = Result Bool Inval} b (Result.Ok (same_words ws (realm_words t))) (Result.Err inval) ≡ Result.Ok true → length t ≡ n
     go true e h = (fits t ws n e).table-fit
     go false e h = let z : ◌≡◌ {A = ℕ} 0 1 = cc in absurd (omega arith)
 
 -- a build makes words and table agree, for any words before
 pub build-agrees : (t ws : List ℕ) → length ws ≡ words_for (length t) →
-    realm_build_of t ws (length t) ≡ record { done = true; words = realm_words t }
+    realm_build_of t ws (length t) ≡ record { done = Result.Ok tt; words = realm_words t }
 unfolding realm_build_of
 build-agrees t ws e = rw (fit-both t ws e)
 
 -- and changes nothing if they agree before
-pub build-stays : (t : List ℕ) → realm_build_of t (realm_words t) (length t) ≡ record { done = true; words = realm_words t }
+pub build-stays : (t : List ℕ) → realm_build_of t (realm_words t) (length t) ≡ record { done = Result.Ok tt; words = realm_words t }
 build-stays t = build-agrees t (realm_words t) (words-length (words_for (length t)) t)
 
 -- "Set spare bits are not counted or hit.": words that have the same bits for the granules get the same answers for any spare bits

@@ -1,36 +1,19 @@
 -- The answers from the words, for n granules (RW5 to RW9). Assumes nothing.
-use Rattle.std.specs.Prelude.{ℕ, zero, suc, ◌+◌, ◌-◌, ◌*◌, ◌/◌, ◌%◌, ◌^◌, ◌≤◌, ◌<◌, ◌≡◌, Bool, true, false, cond, List, [], ◌∷◌, length, get_or, ltb, eqb}
+use Rattle.std.specs.Prelude.{ℕ, zero, suc, ◌+◌, ◌-◌, ◌*◌, ◌/◌, ◌%◌, ◌^◌, ◌≤◌, ◌<◌, ◌≡◌, Bool, true, false, cond, List, [], ◌∷◌, length, get_or, ltb, eqb, Option, Some, None, Result}
 use Rattle.words.specs.Tests.{both}
 use Rattle.codes.specs.Codes.{is_false, fails}
 use Rattle.codes.specs.declared.Code.{Code}
-use Rattle.codes.specs.declared.Code.TheVariants.{Ok, Inval}
 use Rattle.realm_words.specs.Bits.{bit_at, realm_bit, words_for, realm_words}
-use Rattle.realm_words.specs.declared.Number.{Number}
-use Rattle.realm_words.specs.declared.Hit.{Hit}
-use Rattle.realm_words.specs.declared.Agreement.{Agreement}
+use Rattle.realm_words.specs.declared.Inval.{Inval}
 
 -- ---- the code of each answer: "INVAL -5" (RT1) for a refusal, otherwise OK. "No hit is a named answer." (RW6) and "no agreement" are OK
--- the code of a count
-abbrev pub count_code : Number → Code
-count_code Number.Inval = Inval
-count_code (Number.Count n) = Ok
+abbrev pub code_of : {A : Type 0} → Result A Inval → Code
+code_of (Result.Ok x) = Code.Ok
+code_of (Result.Err e) = Code.Inval
 
--- the code of a search
-abbrev pub hit_code : Hit → Code
-hit_code Hit.Inval = Inval
-hit_code Hit.Nothing = Ok
-hit_code (Hit.At i) = Ok
-
--- the code of an agreement
-abbrev pub agree_code : Agreement → Code
-agree_code Agreement.Inval = Inval
-agree_code Agreement.No = Ok
-agree_code Agreement.Yes = Ok
-
--- the code of a build
-abbrev pub build_code : Bool → Code
-build_code true = Ok
-build_code false = Inval
+-- the refusal
+abbrev pub inval : Inval
+inval = record {}
 
 -- ---- the refusals
 -- Request E6: "INVAL, before all other checks of any call on words, .. if their number is not the record's granules over 64, rounded up"
@@ -45,15 +28,15 @@ both_fit t ws n = both (words_fit ws n) (eqb (length t) n)
 -- ---- the refusals as checks, in the order of RW5 and RW6
 -- of a count
 unfoldable pub words_code : List ℕ → ℕ → Code
-words_code ws n = fails (is_false (words_fit ws n)) Inval Ok
+words_code ws n = fails (is_false (words_fit ws n)) Code.Inval Code.Ok
 
 -- of a search
 unfoldable pub index_code : List ℕ → (n i : ℕ) → Code
-index_code ws n i = fails (is_false (words_fit ws n)) Inval (fails (is_false (ltb i n)) Inval Ok)
+index_code ws n i = fails (is_false (words_fit ws n)) Code.Inval (fails (is_false (ltb i n)) Code.Inval Code.Ok)
 
 -- of an agreement or a build
 unfoldable pub table_code : (t ws : List ℕ) → ℕ → Code
-table_code t ws n = fails (is_false (words_fit ws n)) Inval (fails (is_false (eqb (length t) n)) Inval Ok)
+table_code t ws n = fails (is_false (words_fit ws n)) Code.Inval (fails (is_false (eqb (length t) n)) Code.Inval Code.Ok)
 
 -- ---- "The number of Realm granules, and the first one at or after an index, are answered from the words alone" (RW7)
 -- the number of i in [0, n) with f i = 1; f is 1 or 0
@@ -62,17 +45,17 @@ marked f zero = 0
 marked f (suc n) = marked f n + f n
 
 -- the first marked number of [i, i + k). "No hit is a named answer." (RW6)
-unfoldable pub first_marked : (ℕ → ℕ) → ℕ → ℕ → Hit
-first_marked f zero i = Hit.Nothing
-first_marked f (suc k) i = cond (eqb (f i) 1) (Hit.At i) (first_marked f k (suc i))
+unfoldable pub first_marked : (ℕ → ℕ) → ℕ → ℕ → Option ℕ
+first_marked f zero i = None
+first_marked f (suc k) i = cond (eqb (f i) 1) (Some i) (first_marked f k (suc i))
 
 -- "Set spare bits are not counted or hit." (RW7): only the bits of the n granules are read
-unfoldable pub realm_count_of : List ℕ → ℕ → Number
-realm_count_of ws n = cond (words_fit ws n) (Number.Count (marked (bit_at ws) n)) Number.Inval
+unfoldable pub realm_count_of : List ℕ → ℕ → Result ℕ Inval
+realm_count_of ws n = cond (words_fit ws n) (Result.Ok (marked (bit_at ws) n)) (Result.Err inval)
 
 -- "then INVAL for an index not below the granules" (RW6)
-unfoldable pub realm_next_of : List ℕ → ℕ → ℕ → Hit
-realm_next_of ws n i = cond (both (words_fit ws n) (ltb i n)) (first_marked (bit_at ws) (n - i) i) Hit.Inval
+unfoldable pub realm_next_of : List ℕ → ℕ → ℕ → Result (Option ℕ) Inval
+realm_next_of ws n i = cond (both (words_fit ws n) (ltb i n)) (Result.Ok (first_marked (bit_at ws) (n - i) i)) (Result.Err inval)
 
 -- ---- "agreement, spare bits zero too, can be asked for, and a build call sets it up" (RW6)
 -- whether two lists of words are equal
@@ -83,17 +66,18 @@ same_words (x ∷ xs) [] = false
 same_words (x ∷ xs) (y ∷ ys) = both (eqb x y) (same_words xs ys)
 
 -- whether words and table agree (RW6)
-unfoldable pub realm_agree_of : List ℕ → List ℕ → ℕ → Agreement
-realm_agree_of t ws n = cond (both_fit t ws n) (cond (same_words ws (realm_words t)) Agreement.Yes Agreement.No) Agreement.Inval
+unfoldable pub realm_agree_of : List ℕ → List ℕ → ℕ → Result Bool Inval
+realm_agree_of t ws n = cond (both_fit t ws n) (Result.Ok (same_words ws (realm_words t))) (Result.Err inval)
 
--- the result of a build: whether the words are built, and the words at exit
+-- the result of a build, and the words at exit
 pub record Built : Type 0 where
-  pub done : Bool
+  pub done : Result (Unit {0}) Inval
   pub words : List ℕ
 
 -- the build call (RW6)
 unfoldable pub realm_build_of : List ℕ → List ℕ → ℕ → Built
-realm_build_of t ws n = cond (both_fit t ws n) (record { done = true; words = realm_words t }) (record { done = false; words = ws })
+realm_build_of t ws n =
+    cond (both_fit t ws n) (record { done = Result.Ok tt; words = realm_words t }) (record { done = Result.Err inval; words = ws })
 
 -- ---- "the full walk" (RW8) over the table
 -- 1 if granule i is Realm, otherwise 0
@@ -106,7 +90,7 @@ realms [] = 0
 realms (b ∷ t) = realm_bit b + realms t
 
 -- the first Realm byte of a table at or after i
-abbrev pub next_realm : List ℕ → ℕ → Hit
+abbrev pub next_realm : List ℕ → ℕ → Option ℕ
 next_realm t i = first_marked (realm_at t) (length t - i) i
 
 -- ---- for the theorems, in plain facts

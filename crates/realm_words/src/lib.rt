@@ -4,33 +4,14 @@
 ghost use Rattle.std.specs.Prelude.{◌≡◌, ◌+◌, ◌%◌, ◌^◌, ◌<◌, ◌≤◌, length, take, drop};
 ghost use Rattle.std.specs.Int.Count.{ones};
 ghost use Rattle.realm_words.specs.Bits.{realm_bit, packed, words_for, with_bit};
-ghost use Rattle.realm_words.specs.Answers.{count_code, agree_code, build_code, words_fit, both_fit, words_code, table_code, realm_count_of, realm_agree_of, Built, realm_build_of};
+ghost use Rattle.realm_words.specs.Answers.{code_of, words_fit, both_fit, words_code, table_code, realm_count_of, realm_agree_of, Built, realm_build_of};
 
 // Granules of one realm word: one bit each.
 pub const WORD_GRANULES: usize = 64;
 
-// The number of Realm granules, or INVAL.
-#[derive(Clone, Copy)]
-pub enum Number {
-    Inval,
-    Count(u64),
-}
-
-// The first Realm granule at or after an index, nothing, or INVAL (`realm_next::next`).
-#[derive(Clone, Copy)]
-pub enum Hit {
-    Inval,
-    Nothing,
-    At(usize),
-}
-
-// Whether words and table agree, or INVAL.
-#[derive(Clone, Copy)]
-pub enum Agreement {
-    Inval,
-    No,
-    Yes,
-}
+// The only refusal of a call on words: a wrong number of words, a table of another length, or an index that is no granule's.
+#[derive(Clone, Copy, PartialEq, Eq, Debug)]
+pub struct Inval;
 
 // ceil(granules / 64). `granules + 63` could overflow.
 fn words_for(granules: usize) -> usize
@@ -46,10 +27,7 @@ fn words_for(granules: usize) -> usize
 pub fn words_fit(words: &[u64], granules: usize) -> bool
     ensures { result ≡ words_fit words.now granules }
 {
-    if words.len() != words_for(granules) {
-        return false;
-    }
-    true
+    words.len() == words_for(granules)
 }
 
 // ---- one word ----
@@ -73,10 +51,7 @@ fn low_bits(w: u64, k: usize) -> u64
 fn realm_bit(byte: u8) -> u64
     ensures { (result ≡ realm_bit byte) × (result ≤ 1) }
 {
-    if byte == 1 {
-        return 1;
-    }
-    0
+    if byte == 1 { 1 } else { 0 }
 }
 
 // Returns the word with the bit of granule `index` set if `byte` is Realm, and cleared otherwise.
@@ -92,23 +67,23 @@ pub fn with_bit(w: u64, index: usize, byte: u8) -> u64
 // ---- answers from the words alone ----
 
 // Returns the number of Realm granules. Spare bits are not counted (RW7).
-pub fn count(words: &[u64], granules: usize) -> Number
+pub fn count(words: &[u64], granules: usize) -> Result<u64, Inval>
     ensures value { result ≡ realm_count_of words.now granules }
-    ensures result_value { count_code result ≡ words_code words.now granules }
+    ensures result_value { code_of result ≡ words_code words.now granules }
 {
     if !words_fit(words, granules) {
-        return Number::Inval;
+        return Err(Inval);
     }
     let whole = granules / WORD_GRANULES;
     let mut sum: u64 = 0;
-    for at in 0..whole {
-        sum += ones_in(words[at]);
+    for word in &words[..whole] {
+        sum += ones_in(*word);
     }
     let rest = granules % WORD_GRANULES;
     if rest == 0 {
-        return Number::Count(sum);
+        return Ok(sum);
     }
-    Number::Count(sum + ones_in(low_bits(words[whole], rest)))
+    Ok(sum + ones_in(low_bits(words[whole], rest)))
 }
 
 // ---- words and table ----
@@ -159,41 +134,35 @@ fn word_from(table: &[u8], index: usize) -> u64
 fn both_fit(table: &[u8], words: &[u64], granules: usize) -> bool
     ensures { result ≡ both_fit table.now words.now granules }
 {
-    if !words_fit(words, granules) {
-        return false;
-    }
-    if table.len() != granules {
-        return false;
-    }
-    true
+    words_fit(words, granules) && table.len() == granules
 }
 
 // Whether words and table agree, with all spare bits zero (RW6).
-pub fn agrees(table: &[u8], words: &[u64], granules: usize) -> Agreement
+pub fn agrees(table: &[u8], words: &[u64], granules: usize) -> Result<bool, Inval>
     ensures value { result ≡ realm_agree_of table.now words.now granules }
-    ensures result_value { agree_code result ≡ table_code table.now words.now granules }
+    ensures result_value { code_of result ≡ table_code table.now words.now granules }
 {
     if !both_fit(table, words, granules) {
-        return Agreement::Inval;
+        return Err(Inval);
     }
-    for i in 0..words.len() {
-        if words[i] != word_from(table, i * WORD_GRANULES) {
-            return Agreement::No;
+    for (i, word) in words.iter().enumerate() {
+        if *word != word_from(table, i * WORD_GRANULES) {
+            return Ok(false);
         }
     }
-    Agreement::Yes
+    Ok(true)
 }
 
-// Makes the words agree with the table (RW6). Returns false for INVAL, and then changes no word.
-pub fn build(table: &[u8], words: &mut [u64], granules: usize) -> bool
+// Makes the words agree with the table (RW6). If refused, it changes no word.
+pub fn build(table: &[u8], words: &mut [u64], granules: usize) -> Result<(), Inval>
     ensures fact { ◌≡◌ {A = Built} (record { done = result; words = words.new }) (realm_build_of table.now words.old granules) }
-    ensures result_value { build_code result ≡ table_code table.now words.old granules }
+    ensures result_value { code_of result ≡ table_code table.now words.old granules }
 {
     if !both_fit(table, words, granules) {
-        return false;
+        return Err(Inval);
     }
-    for i in 0..words.len() {
-        words[i] = word_from(table, i * WORD_GRANULES);
+    for (i, word) in words.iter_mut().enumerate() {
+        *word = word_from(table, i * WORD_GRANULES);
     }
-    true
+    Ok(())
 }

@@ -7,7 +7,7 @@ use lib.ListN.{length}
 use Rattle.banks.specs.Banks.{Granules, granule_count}
 use Rattle.boot.specs.declared.Record.{Record}
 use Rattle.realm_words.specs.Answers.{realm_count_of, realm_next_of, realms, next_realm}
-use Rattle.realm_words.specs.declared.Number.{Number}
+use Rattle.std.specs.Prelude.{Result}
 use Rattle.granule_rules.specs.Granules.{GranuleTable, Agrees, move_of}
 use Rattle.granule_rules.specs.declared.Direction.{Direction}
 use Rattle.granule_rules.proofs.Moving.{lengths-kept}
@@ -56,10 +56,10 @@ module _ (g : Granules) (w : World) (cs : List Command) where
 
     -- the answers after the sequence, if the table has one byte for each granule of the record
     module _ (n : granule_count g ≡ length w.table.bytes) where
-      pub count-after : realm_count_of (world_after g w cs).table.words (granule_count g) ≡ Number.Count
+      pub count-after : realm_count_of (world_after g w cs).table.words (granule_count g) ≡ Result.Ok
           (realms (world_after g w cs).table.bytes)
       count-after = count_walks g (world_after g w cs).table (n ∙ sym length-stays) agreement-kept
 
-      pub next-after : (i : ℕ) → i < granule_count g → realm_next_of (world_after g w cs).table.words (granule_count g) i ≡ next_realm
-          (world_after g w cs).table.bytes i
+      pub next-after : (i : ℕ) → i < granule_count g → realm_next_of (world_after g w cs).table.words (granule_count g) i ≡ Result.Ok
+          (next_realm (world_after g w cs).table.bytes i)
       next-after i h = next-walks g (world_after g w cs).table (n ∙ sym length-stays) agreement-kept i h

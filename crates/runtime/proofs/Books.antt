@@ -5,7 +5,7 @@ use lib.ListN.{length}
 use Rattle.boot.specs.declared.Record.TheVariants.{Fresh}
 use Rattle.banks.specs.Banks.{Granules, granule_count}
 use Rattle.realm_words.specs.Answers.{realm_agree_of, realms}
-use Rattle.realm_words.specs.declared.Agreement.{Agreement}
+use Rattle.std.specs.Prelude.{true, Result}
 use Rattle.realm_words.proofs.Laws.{agree-told, agree-sized}
 use Rattle.granule_rules.specs.Granules.{Agrees}
 use Rattle.granule_rules.specs.Books.{Books, CountBooks}
@@ -28,9 +28,9 @@ pub granule-books : (g : Granules) (w : World) (cs : List Command) →
 granule-books g w cs =
     account-books g w.table _ _ (run_by (Account g) (account-none g) (account-join g) g (λ s d t a h. call-account s g d t a h) w cs)
 
--- The same for the count of the realm words, if the comparison of words and table answers yes at the start.
+-- The same for the count of the realm words, if the comparison of words and table answers true at the start.
 pub count-books : (g : Granules) (w : World) (cs : List Command) →
-    realm_agree_of w.table.bytes w.table.words (granule_count g) ≡ Agreement.Yes →
+    realm_agree_of w.table.bytes w.table.words (granule_count g) ≡ Result.Ok true →
     CountBooks g w.table (gathered g (changes_of g) w cs) (world_after g w cs).table
 count-books g w cs y =
     let a : Agrees w.table = agree-told w.table.bytes w.table.words (granule_count g) y in

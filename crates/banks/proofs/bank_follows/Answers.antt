@@ -4,10 +4,10 @@ use Rattle.words.specs.Tests.{both}
 use Rattle.banks.specs.Banks.{follows}
 use Rattle.banks.proofs.bank_follows.Goals as goal
 
-pub returns-then-base-low : goal.returns-then-base-low
+pub returns-then-low-base : goal.returns-then-low-base
 unfolding follows both
-returns-then-base-low c = let a = c.args in simp (lt-leb a.low a.base (search rules))
+returns-then-low-base c = let a = c.args in simp (le-leb a.low a.base (search rules)) c.bank_ok.ensures
 
-pub returns : goal.returns
+pub returns-else-low-base : goal.returns-else-low-base
 unfolding follows both
-returns c = let a = c.args in simp (le-leb a.low a.base (search rules)) c.bank_ok.ensures
+returns-else-low-base c = let a = c.args in simp (lt-leb a.low a.base (search rules))

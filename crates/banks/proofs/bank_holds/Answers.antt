@@ -1,21 +1,16 @@
-use Rattle.std.proofs.Common.{◌+◌, arith, rules, le-ltb, lt-ltb, le-leb}
+use Rattle.std.proofs.Common.{rules, le-leb}
 use borrow.Author.Tests.{lt-leb}
 use Rattle.words.specs.Tests.{both}
 use Rattle.banks.specs.Banks.{holds}
+use Rattle.banks.proofs.Passing.{below-end}
 use Rattle.banks.proofs.bank_holds.Goals as goal
 
-pub returns-then-address-base : goal.returns-then-address-base
+pub returns-then-base-address : goal.returns-then-base-address
 unfolding holds both
-returns-then-address-base c = let a = c.args in simp (lt-leb a.base a.address (search rules))
-
-pub returns-then-size-address : goal.returns-then-size-address
-unfolding holds both
-returns-then-size-address c =
+returns-then-base-address c =
     let a = c.args in
-    simp (le-leb a.base a.address (search rules), le-ltb a.address (a.base + a.size) (omega arith))
+    simp (le-leb a.base a.address (search rules)) (below-end a.base a.size a.address (search rules))
 
-pub returns : goal.returns
+pub returns-else-base-address : goal.returns-else-base-address
 unfolding holds both
-returns c =
-    let a = c.args in
-    simp (le-leb a.base a.address (search rules), lt-ltb a.address (a.base + a.size) (omega arith))
+returns-else-base-address c = let a = c.args in simp (lt-leb a.base a.address (search rules))

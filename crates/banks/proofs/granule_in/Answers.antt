@@ -1,6 +1,5 @@
-use Rattle.std.proofs.Common.{◌%◌, sym, ap, ◌∙◌, arith, rules, eq-eqb, ne_eqb}
+use Rattle.std.proofs.Common.{◌%◌, sym, ◌∙◌, arith, rules, eq-eqb, ne_eqb}
 use Rattle.words.specs.Tests.{both}
-use Rattle.banks.specs.declared.Granule.TheVariants.{At}
 use Rattle.banks.specs.Fast.{granule_in}
 use Rattle.banks.proofs.Laws.{holds-facts}
 use Rattle.banks.proofs.granule_in.Goals as goal
@@ -15,8 +14,8 @@ returns-then-not-bank_holds c =
     let a = c.args in
     rw (eq-eqb (a.address % 4096) 0 (search rules), sym c.bank_holds.ensures ∙ c.if-not-bank_holds.true)
 
-pub overflow_sub-address : goal.overflow_sub-address
-overflow_sub-address c =
+pub overflow_sub-index : goal.overflow_sub-index
+overflow_sub-index c =
     let v = holds-facts _ _ _ (sym c.bank_holds.ensures ∙ c.if-not-bank_holds.false) in
     omega (arith, v.from)
 
@@ -25,4 +24,3 @@ unfolding granule_in both
 returns c =
     let a = c.args in
     rw (eq-eqb (a.address % 4096) 0 (search rules), sym c.bank_holds.ensures ∙ c.if-not-bank_holds.false)
-    (ap At c.wrapping_add_u64-index.ensures.value)

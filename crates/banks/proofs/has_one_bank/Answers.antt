@@ -1,18 +1,22 @@
-use Rattle.std.proofs.Common.{eq-eqb, ne_eqb}
+use Rattle.std.proofs.Common.{sym, ◌∙◌, eq-eqb, ne_eqb}
+use mathlib.Core.Bool.{false≢true}
 use Rattle.words.specs.Tests.{both}
 use Rattle.banks.specs.Fast.{has_one_bank}
 use Rattle.banks.proofs.has_one_bank.Goals as goal
-
-pub returns-then-granules-ne1 : goal.returns-then-granules-ne1
-unfolding has_one_bank both
-returns-then-granules-ne1 c = rw (ne_eqb _ 1 c.if-granules-ne1.true)
+use Rattle.banks.proofs.has_one_bank.Goals.{then-granules-eq1, else-granules-eq1}
 
 pub returns-then-granules-n : goal.returns-then-granules-n
 unfolding has_one_bank both
-returns-then-granules-n c = rw (eq-eqb _ 1 c.if-granules-ne1.false, ne_eqb _ _ c.if-granules-n.true)
+returns-then-granules-n c =
+    elim c.if-granules-eq1.branch [
+      | then-granules-eq1 w ↦ rw (eq-eqb _ 1 w.if-granules-eq1.true, sym w.value-is ∙ c.if-granules-n.true) c.bank_ok.ensures
+      | else-granules-eq1 w ↦ absurd (false≢true (sym (ne_eqb _ 1 w.if-granules-eq1.false) ∙ sym w.value-is ∙ c.if-granules-n.true))
+    ]
 
-pub returns : goal.returns
+pub returns-else-granules-n : goal.returns-else-granules-n
 unfolding has_one_bank both
-returns c =
-    rw (eq-eqb _ 1 c.if-granules-ne1.false, eq-eqb _ _ c.if-granules-n.false)
-    c.bank_ok.ensures
+returns-else-granules-n c =
+    elim c.if-granules-eq1.branch [
+      | then-granules-eq1 w ↦ rw (eq-eqb _ 1 w.if-granules-eq1.true, sym w.value-is ∙ c.if-granules-n.false) c.if-granules-n.false
+      | else-granules-eq1 w ↦ rw (ne_eqb _ 1 w.if-granules-eq1.false) c.if-granules-n.false
+    ]

@@ -12,37 +12,37 @@ pub returns-then-is_shared_page : goal.returns-then-is_shared_page
 returns-then-is_shared_page c =
     let a = c.args in
     λ g e. move-shared a.params g a.direction a.table.now a.words.now a.address _
-    (sym e ∙ c.in-At.is) (sym c.is_shared_page.ensures ∙ c.if-is_shared_page.true)
+    (sym e ∙ c.in-Some.is) (sym c.is_shared_page.ensures ∙ c.if-is_shared_page.true)
 
 pub bounds-table-at : goal.bounds-table-at
 bounds-table-at c =
     omega (
       arith,
       (c.requires _
-          c.in-At.is).0,
+          c.in-Some.is).0,
     )
 
-pub returns-then-byte-from : goal.returns-then-byte-from
-returns-then-byte-from c =
+pub returns-then-table-at : goal.returns-then-table-at
+returns-then-table-at c =
     let a = c.args in
     λ g e. move-pas a.params g a.direction a.table.now a.words.now a.address _
-    (sym e ∙ c.in-At.is)
+    (sym e ∙ c.in-Some.is)
     (sym c.is_shared_page.ensures ∙ c.if-is_shared_page.false)
-    (rw (← c.from_byte-from.ensures) c.if-byte-from.true)
+    (rw (← c.from_byte.ensures) c.if-table-at.true)
 
 pub bounds-table-at-2 : goal.bounds-table-at-2
 bounds-table-at-2 c =
-    omega (arith, (c.requires _ c.in-At.is).0)
+    omega (arith, (c.requires _ c.in-Some.is).0)
 
 pub put_bit-requires : goal.put_bit-requires
 put_bit-requires c =
-    (c.requires _ c.in-At.is).1
+    (c.requires _ c.in-Some.is).1
 
 pub returns : goal.returns
 returns c =
     let a = c.args in
     λ g e. rw c.put_bit.ensures
     (move-ok a.params g a.direction a.table.now a.words.now a.address _
-    (sym e ∙ c.in-At.is) (sym c.is_shared_page.ensures ∙ c.if-is_shared_page.false)
-    (c.if-byte-from.false ∙ c.from_byte-from.ensures)
+    (sym e ∙ c.in-Some.is) (sym c.is_shared_page.ensures ∙ c.if-is_shared_page.false)
+    (c.if-table-at.false ∙ c.from_byte.ensures)
     _ c.to_byte-to.ensures)

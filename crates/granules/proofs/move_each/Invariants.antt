@@ -1,4 +1,4 @@
-use Prim.Native.Nat.{◌-◌, ◌≤◌}
+use Prim.Native.Nat.{◌≤◌}
 use mathlib.Core.Path.{◌≡◌}
 use lib.ListN.{length, drop}
 use Rattle.banks.proofs.Fast.{SpanOf}
@@ -12,6 +12,3 @@ invariant-loop-i l =
     (l.i ≤ length l.addresses) × (length l.table ≡ length l.initial.table) × (length l.words ≡ length l.initial.words) × SpanOf l.granules l.bank
     × (list_by (move_at l.params l.granules l.direction) 0 (table_of l.initial.table l.initial.words) l.addresses ≡ list_by (move_at l.params l.granules l.direction) l.i
     (table_of l.table l.words) (drop l.i l.addresses))
-
-abbrev pub decreases-loop-i : goal.decreases-loop-i
-decreases-loop-i l = length l.addresses - l.i

@@ -2,11 +2,12 @@ use mathlib.Core.Path.{sym, ◌∙◌}
 use Rattle.granule_rules.specs.Granules.{table_of}
 use Rattle.granule_rules.proofs.Moving.{shared-passed}
 use Rattle.granule_rules.proofs.Lists.{told-list, list-none, list-refused}
+use borrow.Author.Tests.{eqb-false}
 use borrow.Author.Rules.{rules}
 use Rattle.granules.proofs.move_list.Goals as goal
 
-pub returns-then-addresses-eq0 : goal.returns-then-addresses-eq0
-returns-then-addresses-eq0 c =
+pub returns-then-is_empty : goal.returns-then-is_empty
+returns-then-is_empty c =
     let a = c.args in
     list-none a.state a.granules.now a.direction (table_of a.table.now a.words.now) a.addresses.now
     (search rules) _ c.move_none.ensures
@@ -16,7 +17,7 @@ returns-then-not-is_ok c =
     let a = c.args in
     list-refused a.state a.granules.now a.direction (table_of a.table.now a.words.now) _ c.shared_code-code.ensures
     (sym c.is_ok.ensures ∙ c.if-not-is_ok.true)
-    a.addresses.now c.if-addresses-eq0.false _ c.answer_with.ensures
+    a.addresses.now (eqb-false _ _ (sym c.is_empty.ensures ∙ c.if-is_empty.false)) _ c.answer_with.ensures
 
 pub move_each-requires : goal.move_each-requires
 move_each-requires c =

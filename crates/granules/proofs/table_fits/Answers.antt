@@ -1,17 +1,12 @@
-use borrow.Author.Tests.{lt-ltb, le-ltb, eq-eqb, ne_eqb}
-use native.Mathlib.Omega.{arith}
+use borrow.Author.Tests.{lt-ltb, le-ltb}
 use borrow.Author.Rules.{rules}
 use Rattle.words.specs.Tests.{both}
 use Rattle.granules.proofs.table_fits.Goals as goal
 
-pub returns-then-count-eq0 : goal.returns-then-count-eq0
+pub returns-then-count-gt0 : goal.returns-then-count-gt0
 unfolding both
-returns-then-count-eq0 c = let a = c.args in simp (le-ltb 0 a.count (omega arith))
+returns-then-count-gt0 c = simp (lt-ltb 0 c.args.count (search rules))
 
-pub returns-then-count-n : goal.returns-then-count-n
+pub returns-else-count-gt0 : goal.returns-else-count-gt0
 unfolding both
-returns-then-count-n c = let a = c.args in simp (lt-ltb 0 a.count (omega arith), ne_eqb a.count a.n (search rules))
-
-pub returns : goal.returns
-unfolding both
-returns c = let a = c.args in simp (lt-ltb 0 a.count (omega arith), eq-eqb a.count a.n (search rules))
+returns-else-count-gt0 c = simp (le-ltb 0 c.args.count (search rules))

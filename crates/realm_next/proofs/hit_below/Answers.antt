@@ -7,6 +7,6 @@ pub returns-then-index-granules : goal.returns-then-index-granules
 unfolding hit_below
 returns-then-index-granules c = let a = c.args in simp (lt-ltb a.index a.granules (search rules))
 
-pub returns : goal.returns
+pub returns-else-index-granules : goal.returns-else-index-granules
 unfolding hit_below
-returns c = let a = c.args in simp (le-ltb a.index a.granules (search rules))
+returns-else-index-granules c = let a = c.args in simp (le-ltb a.index a.granules (search rules))

@@ -1,5 +1,6 @@
 use Prim.Native.Nat.{◌<◌}
-use mathlib.Core.Path.{◌≡◌, refl, sym, ◌∙◌}
+use mathlib.Core.Path.{◌≡◌, refl, sym, ap, ◌∙◌}
+use Rattle.std.specs.Prelude.{Result}
 use native.Mathlib.Omega.{arith}
 use lib.ListN.{length}
 use lib.Count.{count_trailing_zeros}
@@ -51,7 +52,7 @@ returns-then-words-at c =
           c.if-not-words_fit.false,
       lt-ltb a.index a.granules (search rules),
     )
-    (sym (look_none a.words.now a.granules a.index l.at l.bits l.invariant.2 (search rules) (search rules) (omega arith)))) in record { value = told.0; result_value = told.1 }
+    (ap Result.Ok (sym (look_none a.words.now a.granules a.index l.at l.bits l.invariant.2 (search rules) (search rules) (omega arith))))) in record { value = told.0; result_value = told.1 }
 
 pub loop-bits-preserved : goal.loop-bits-preserved
 loop-bits-preserved c =
@@ -80,5 +81,5 @@ returns c =
       sym c.words_fit.ensures ∙ c.if-not-words_fit.false,
       lt-ltb a.index a.granules (search rules),
     )
-    (c.hit_below.ensures ∙ rw e (sym (look_hit a.words.now a.granules a.index l.at l.bits l.invariant.2 (rw (← e) t)
-    (search rules))))) in record { value = told.0; result_value = told.1 }
+    (ap Result.Ok (c.hit_below.ensures ∙ rw e (sym (look_hit a.words.now a.granules a.index l.at l.bits l.invariant.2 (rw (← e) t)
+    (search rules)))))) in record { value = told.0; result_value = told.1 }

@@ -28,16 +28,16 @@ pub word_from-requires : goal.word_from-requires
 unfolding words_for
 word_from-requires c = omega arith
 
-pub returns-then-words-i : goal.returns-then-words-i
+pub returns-then-word-word_from : goal.returns-then-word-word_from
 unfolding realm_agree_of
-returns-then-words-i c =
+returns-then-word-word_from c =
     let a = c.args in
     let l = c.loop-i in
     let y : both_fit a.table.now a.words.now a.granules ≡ true = sym
     c.both_fit.ensures ∙
     c.if-not-both_fit.false in
     let n : same_words a.words.now (realm_words a.table.now) ≡ false = l.invariant.2 ∙
-    agree-not a.words.now a.table.now l.i (search rules) (λ e. c.if-words-i.true (e ∙ sym c.word_from.ensures)) in
+    agree-not a.words.now a.table.now l.i (search rules) (λ e. c.if-word-word_from.true (e ∙ sym c.word_from.ensures)) in
     let told = agree-code a.table.now a.words.now a.granules _ (rw (y, n)) in record { value = told.0; result_value = told.1 }
 
 pub loop-i-preserved : goal.loop-i-preserved
@@ -47,7 +47,7 @@ loop-i-preserved c =
       l.invariant.0,
       search rules,
       l.invariant.2 ∙ agree-more a.words.now a.table.now l.i (search rules)
-          (c.if-words-i.false ∙ c.word_from.ensures),
+          (c.if-word-word_from.false ∙ c.word_from.ensures),
     )
 
 pub returns : goal.returns

@@ -1,4 +1,4 @@
-use Prim.Native.Nat.{◌-◌, ◌≤◌}
+use Prim.Native.Nat.{◌≤◌}
 use mathlib.Core.Path.{◌≡◌}
 use lib.ListN.{length}
 use Rattle.realm_words.specs.Bits.{realm_words}
@@ -9,6 +9,3 @@ use Rattle.realm_words.proofs.agrees.Given as goal
 abbrev pub invariant-loop-i : goal.invariant-loop-i
 invariant-loop-i l =
     Fits l.table l.words l.granules × (l.i ≤ length l.words) × (same_words l.words (realm_words l.table) ≡ rest l.words l.table l.i)
-
-abbrev pub decreases-loop-i : goal.decreases-loop-i
-decreases-loop-i l = length l.words - l.i

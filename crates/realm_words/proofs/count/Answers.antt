@@ -1,4 +1,7 @@
-use Prim.Native.Nat.{◌+◌, ◌*◌, ◌/◌, ◌%◌, ◌≤◌}
+use Prim.Native.Nat.{ℕ, ◌+◌, ◌*◌, ◌/◌, ◌%◌, ◌≤◌, ◌<◌}
+use mathlib.Core.List.{List}
+use lib.ListN.{length, take}
+use lib.Seq.{length-take-le, get_or-take}
 use mathlib.Core.Path.{◌≡◌, sym, ap, ◌∙◌}
 use native.Mathlib.Nat.{mod-lt}
 use native.Mathlib.Omega.{arith}
@@ -10,7 +13,7 @@ use Rattle.realm_words.specs.Bits.{words_for, bit_at}
 use Rattle.realm_words.specs.Answers.{marked, realm_count_of}
 use Rattle.realm_words.proofs.Codes.{count-told}
 use Rattle.realm_words.proofs.Counting.{marked-none, marked_more, marked-word}
-use Rattle.realm_words.specs.declared.Number.{Number}
+use Rattle.std.specs.Prelude.{Result}
 use Rattle.realm_words.proofs.count.Goals as goal
 
 pub returns-then-not-words_fit : goal.returns-then-not-words_fit
@@ -19,37 +22,48 @@ returns-then-not-words_fit c =
     let a = c.args in
     let told = count-told a.words.now a.granules _ (rw (sym c.words_fit.ensures ∙ c.if-not-words_fit.true)) in record { value = told.0; result_value = told.1 }
 
-pub loop-at-init : goal.loop-at-init
-loop-at-init c = (
+pub loop-word-init : goal.loop-word-init
+loop-word-init c = (
   eqb-true _ _ (sym c.words_fit.ensures ∙ c.if-not-words_fit.false),
   search rules,
   search rules,
   marked-none c.args.words.now,
 )
 
-pub bounds-words-at : goal.bounds-words-at
+-- the whole words are among the words
+whole_words : (ws : List ℕ) (n : ℕ) → length ws ≡ words_for n → length (take (n / 64) ws) ≡ n / 64
 unfolding words_for
-bounds-words-at c = search rules
+whole_words ws n f = length-take-le (n / 64) ws (omega arith)
 
-pub loop-at-preserved : goal.loop-at-preserved
-loop-at-preserved c =
+pub slice_bounds-word-items-end : goal.slice_bounds-word-items-end
+unfolding words_for
+slice_bounds-word-items-end c =
+    let f : length c.args.words.now ≡ words_for c.args.granules = eqb-true _ _ (sym c.words_fit.ensures ∙ c.if-not-words_fit.false) in
+    omega (arith, whole_words c.args.words.now c.args.granules f)
+
+pub loop-word-preserved : goal.loop-word-preserved
+loop-word-preserved c =
     let a = c.args in
-    let l = c.loop-at in (
+    let l = c.loop-word in
+    let w = whole_words a.words.now a.granules l.invariant.0 in
+    let h : l.word-index < a.granules / 64 = omega arith in
+    let e = get_or-take (a.granules / 64) a.words.now l.word-index 0 h in (
       l.invariant.0,
-      search rules,
-      search rules,
-      marked_more a.words.now l.at l.sum _
-          (omega (arith, c.shared_slice_known-in-loop-at-1.given l.at)) l.invariant.3 c.ones_in-sum.ensures.0,
+      omega arith,
+      omega (arith, c.ones_in-sum.ensures.1),
+      marked_more a.words.now l.word-index l.sum _
+          (omega (arith, c.type_inv.words l.word-index)) l.invariant.3 (c.ones_in-sum.ensures.0 ∙ ap ones e),
     )
 
 pub returns-then-rest-eq0 : goal.returns-then-rest-eq0
 unfolding realm_count_of
 returns-then-rest-eq0 c =
     let a = c.args in
-    let l = c.loop-at in
+    let l = c.loop-word in
     let y = sym c.words_fit.ensures ∙ c.if-not-words_fit.false in
-    let e : a.granules ≡ 64 * l.at = omega arith in
-    let told = count-told a.words.now a.granules _ (rw y (ap Number.Count (l.invariant.3 ∙ ap (marked (bit_at a.words.now)) (sym e)))) in record { value = told.0; result_value = told.1 }
+    let w = whole_words a.words.now a.granules l.invariant.0 in
+    let e : a.granules ≡ 64 * l.word-index = omega arith in
+    let told = count-told a.words.now a.granules _ (rw y (ap Result.Ok (l.invariant.3 ∙ ap (marked (bit_at a.words.now)) (sym e)))) in record { value = told.0; result_value = told.1 }
 
 pub bounds-words-whole : goal.bounds-words-whole
 unfolding words_for
@@ -67,13 +81,14 @@ pub returns : goal.returns
 unfolding realm_count_of
 returns c =
     let a = c.args in
-    let l = c.loop-at in
+    let l = c.loop-word in
     let y = sym c.words_fit.ensures ∙
     c.if-not-words_fit.false in
     let e : a.granules ≡ 64 * (a.granules / 64) + a.granules % 64 = omega arith in
-    let w : l.at ≡ a.granules / 64 = omega arith in
+    let k = whole_words a.words.now a.granules l.invariant.0 in
+    let w : l.word-index ≡ a.granules / 64 = omega arith in
     let s : l.sum ≡ marked (bit_at a.words.now) (64 * (a.granules / 64)) = l.invariant.3 ∙ rw w in
     let o = c.ones_in.ensures.0 ∙ ap ones c.low_bits.ensures in
-    let told = count-told a.words.now a.granules _ (rw y (ap Number.Count
+    let told = count-told a.words.now a.granules _ (rw y (ap Result.Ok
     (rw (s, o) (sym (ap (marked (bit_at a.words.now)) e ∙
     marked-word a.words.now (a.granules / 64) (a.granules % 64) (omega arith)))))) in record { value = told.0; result_value = told.1 }

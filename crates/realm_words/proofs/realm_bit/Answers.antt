@@ -8,6 +8,6 @@ pub returns-then-byte-eq1 : goal.returns-then-byte-eq1
 unfolding realm_bit
 returns-then-byte-eq1 c = (simp (eq-eqb c.args.byte 1 (search rules)), omega arith)
 
-pub returns : goal.returns
+pub returns-else-byte-eq1 : goal.returns-else-byte-eq1
 unfolding realm_bit
-returns c = (simp (ne_eqb c.args.byte 1 (search rules)), omega arith)
+returns-else-byte-eq1 c = (simp (ne_eqb c.args.byte 1 (search rules)), omega arith)

@@ -1,6 +1,6 @@
 use mathlib.Core.Path.{sym, ◌∙◌}
 use Rattle.words.proofs.Tests.{both_l, both_r}
-use Rattle.granules.proofs.undelegate.Goals as goal
+use Rattle.granules.proofs.single.Goals as goal
 
 pub move_shortcut-code-requires : goal.move_shortcut-code-requires
 move_shortcut-code-requires c =
