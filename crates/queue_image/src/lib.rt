@@ -9,7 +9,7 @@ ghost use Rattle.queue_image.specs.Image.{request_in, held_in, response_in, list
 ghost use Rattle.queue_image.specs.Sides.{request_side, response_side, row_dropped};
 ghost use Rattle.queue_image.specs.Steps.{row_appended};
 
-use queue::{HASH_BYTES, PLACES, Queue, Request, Requests, Response, Responses, SIGNATURE_BYTES};
+use queue::{HASH_BYTES, PLACES, Queue, Request, Response, SIGNATURE_BYTES, Side};
 
 // The image: the number of requests, the number of responses, eight requests, eight responses.
 pub const QUEUE_WORDS: usize = 210;
@@ -81,7 +81,7 @@ fn response_in(image: &[u64], at: usize) -> Response
 }
 
 // Reads all eight places of the requests; `count` is the image's own number.
-fn requests_in(image: &[u64]) -> Requests
+fn requests_in(image: &[u64]) -> Side<Request>
     requires { length image.now ≡ 210 }
     ensures { result ≡ (queue_in image.now).requests }
 {
@@ -89,13 +89,13 @@ fn requests_in(image: &[u64]) -> Requests
     for i in 0..PLACES {
         items[i] = request_in(image, FIRST_REQUEST + REQUEST_WORDS * i);
     }
-    Requests {
+    Side {
         items,
         count: image[REQUESTS] as usize,
     }
 }
 
-fn responses_in(image: &[u64]) -> Responses
+fn responses_in(image: &[u64]) -> Side<Response>
     requires { length image.now ≡ 210 }
     ensures { result ≡ (queue_in image.now).responses }
 {
@@ -103,7 +103,7 @@ fn responses_in(image: &[u64]) -> Responses
     for i in 0..PLACES {
         items[i] = response_in(image, FIRST_RESPONSE + RESPONSE_WORDS * i);
     }
-    Responses {
+    Side {
         items,
         count: image[RESPONSES] as usize,
     }
