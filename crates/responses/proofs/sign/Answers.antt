@@ -3,7 +3,7 @@ use Prim.Native.Nat.{◌<◌}
 use lib.ListN.{length}
 use borrow.Author.Tests.{not-true, not-false}
 use Rattle.codes.specs.declared.Code.TheVariants.{Ok}
-use Rattle.queue.specs.Queue.{waiting_signed, lists_of, queue_holding}
+use Rattle.queue.specs.Queue.{waiting, waiting_signed, lists_of, queue_holding, oldest_request}
 use Rattle.queue.proofs.Holding.{requests_held, responses-joined}
 use Rattle.queue.proofs.Sides.{joined-room}
 use Rattle.queue_image.proofs.Steps.{ok-is}
@@ -23,9 +23,9 @@ returns-then-not-is_ok c =
     (ready-length a.queue.responses ∙ sym (ap length c.waiting-2.ensures.0))))
     (sym c.is_ok.ensures ∙ not-true c.is_ok.result c.if-not-is_ok.true-raw)
 
-pub response_of-requires : goal.response_of-requires
+pub response_of-response-requires : goal.response_of-response-requires
 unfolding lists_of
-response_of-requires c =
+response_of-response-requires c =
     let a = c.args in
     let q = lists_of a.queue in
     (sign-passed q a.signature.now (sym (c.sign_code-checked.ensures q
@@ -35,7 +35,7 @@ response_of-requires c =
     c.if-not-is_ok.false-raw))).0
 
 pub returns : goal.returns
-unfolding lists_of signed signed_by queue_holding
+unfolding lists_of signed signed_by queue_holding waiting oldest_request
 returns c =
     let a = c.args in
     let q = lists_of a.queue in
@@ -52,7 +52,7 @@ returns c =
       c.joined.ensures ∙ responses-joined a.queue.responses _,
       joined-room
           (waiting_signed a.queue.responses) _ l,
-      c.response_of.ensures,
-      c.oldest.ensures,
+      c.response_of-response.ensures,
+      c.oldest-oldest.ensures,
     )
     (sign-accepts q a.signature.now a.queue o)
