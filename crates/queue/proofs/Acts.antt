@@ -1,25 +1,22 @@
 -- What the lookup of the oldest request returns, from the array and its count; and what follows from an answer of OK. Assumes nothing.
 use Prim.Native.Nat.{ℕ, zero, suc, ◌≤◌}
-use mathlib.Core.Path.{◌≡◌, refl, ap}
-use mathlib.Core.Bool.{Bool, cond}
+use mathlib.Core.Path.{◌≡◌, refl}
 use mathlib.Core.List.{List, ◌∷◌}
 use native.Mathlib.Omega.{arith}
-use lib.ListN.{length, take, replicate}
-use borrow.Author.Tests.{ne_eqb}
+use lib.ListN.{take}
 use Rattle.codes.specs.Codes.{answer_of}
 use Rattle.codes.specs.declared.Code.{Code}
 use Rattle.codes.specs.declared.Code.TheVariants.{Ok}
 use Rattle.codes.proofs.Gates.{if-ok-by}
 use Rattle.queue.specs.declared.Request.{Request}
 use Rattle.queue.specs.declared.Queue.{Queue}
-use Rattle.queue.specs.declared.Waiting.TheVariants.{None, Some}
-use Rattle.queue.specs.Queue.{Lists, SigningStep, queued, waiting, lists_of, no_request, oldest_request, waiting_of, oldest_of}
+use Rattle.std.specs.Prelude.{Some, None}
+use Rattle.queue.specs.Queue.{Lists, SigningStep, queued, waiting, lists_of, oldest_of}
 
-first_of : (n : ℕ) (r : Request) (rest : List Request) → 1 ≤ n →
-    (waiting_of (take n (r ∷ rest)) ≡ Some) × (oldest_request (take n (r ∷ rest)) ≡ r)
-unfolding waiting_of oldest_request
+first_of : (n : ℕ) (r : Request) (rest : List Request) → 1 ≤ n → oldest_of (take n (r ∷ rest)) ≡ Some r
+unfolding oldest_of
 first_of zero r rest h = absurd (omega arith)
-first_of (suc n) r rest h = (ap (λ (b : Bool). cond b None Some) (ne_eqb (length (take (suc n) (r ∷ rest))) 0 (λ e. omega arith)), refl)
+first_of (suc n) r rest h = refl
 
 -- an answer of OK comes from a code of OK
 pub queued-ok : (k : Code) (new : SigningStep) (page : List ℕ) (q : Lists) → (queued k new page q).answer.code ≡ Ok → k ≡ Ok
@@ -31,12 +28,11 @@ queued-ok k new page q =
 module _ (q : Queue) where
   -- "The oldest request, all its fields, can be asked for": with a count of 1 or more it is the first of the array
   pub oldest-acts : (r : Request) (rest : List Request) → q.requests.items ≡ r ∷ rest → 1 ≤ q.requests.count →
-      oldest_of (lists_of q).requests ≡ record { waiting = Some; request = r }
-  unfolding lists_of waiting oldest_of
-  oldest-acts r rest e h = let f = first_of q.requests.count r rest h in rw (e, f.0, f.1)
+      oldest_of (lists_of q).requests ≡ Some r
+  unfolding lists_of waiting
+  oldest-acts r rest e h = rw e (first_of q.requests.count r rest h)
 
   -- "none is a named answer": with a count of 0
-  pub oldest-none : q.requests.count ≡ 0 → oldest_of (lists_of q).requests ≡
-      record { waiting = None; request = record { algorithm = 0; granule = 0; ticket = 0; hashid = 0; hash = replicate 48 0 } }
-  unfolding lists_of waiting waiting_of oldest_of oldest_request no_request
+  pub oldest-none : q.requests.count ≡ 0 → oldest_of (lists_of q).requests ≡ None
+  unfolding lists_of waiting oldest_of
   oldest-none h = rw h

@@ -1,21 +1,23 @@
 -- Arrays that hold a list and zeros after it. Assumes nothing.
 use Prim.Native.Nat.{ℕ, zero, suc, ◌+◌, ◌-◌, ◌<◌, ◌≤◌}
 use mathlib.Core.Path.{◌≡◌, refl, sym, ap, ◌∙◌}
+use mathlib.Core.Bool.{Bool, true, false, cond}
 use mathlib.Core.List.{List, [], ◌∷◌, ◌++◌, map, map-append}
 use native.Mathlib.Nat.{zero-add, zero-sub, sub-zero, suc-sub-suc}
 use native.Mathlib.Numerals.{add-one}
 use native.Mathlib.Omega.{arith}
-use lib.ListN.{length, take, drop, get_or, set, replicate, length-append, length-take, length-drop, length-replicate, length-map}
-use lib.ListN.{get_or-map}
-use lib.Seq.{take_at, take-length, length-take-le, take-suc, set-append_seam, append_snoc, get_or-take, get_or-drop}
+use lib.ListN.{length, take, drop, get_or, set, replicate, length-append, length-take, length-replicate, length-map}
+use lib.Seq.{take_at, length-take-le, take-suc, set-append_seam, append_snoc}
+use lib.Dec.{ltb}
+use Rattle.std.proofs.lemmas.List.{map-id, drop-map}
+use Rattle.std.proofs.lemmas.Simd.{map-map}
 use Rattle.words.specs.Word.{splice, laid}
 use Rattle.words.proofs.Store.{bytes-in}
 use Rattle.queue.specs.declared.Request.{Request}
 use Rattle.queue.specs.declared.Response.{Response}
-use Rattle.queue.specs.declared.Requests.{Requests}
-use Rattle.queue.specs.declared.Responses.{Responses}
-use Rattle.queue.specs.Queue.{Signed, Lists, waiting, waiting_items, waiting_signed, signed_in, lists_of, appended, no_request, no_response}
-use Rattle.queue.specs.Queue.{pad_to, requests_holding, response_holding, responses_holding, queue_holding}
+use Rattle.queue.specs.declared.Side.{Side}
+use Rattle.queue.specs.Queue.{Signed, Lists, waiting, waiting_signed, signed_in, lists_of, appended, no_request, no_response}
+use Rattle.queue.specs.Queue.{pad_to, side_of, requests_holding, response_holding, responses_holding, queue_holding}
 use Rattle.queue.proofs.Sides.{taken-all, joined-room, joined-full}
 
 module _ {A : Type 0} where
@@ -33,21 +35,33 @@ module _ {A : Type 0} where
   drop-replicate (suc k) zero z = ap (λ (m : ℕ). replicate m z) (sym (zero-sub (suc k)))
   drop-replicate (suc k) (suc n) z = drop-replicate k n z ∙ ap (λ (m : ℕ). replicate m z) (sym (suc-sub-suc n k))
 
-  -- ---- filled entry by entry
-  pub fill_none : (z x : A) (items : List A) → items ≡ replicate 8 x → x ≡ z → items ≡ pad_to 8 z []
-  unfolding pad_to
-  fill_none z x items e h = e ∙ rw h
+  -- ---- a side, entry by entry
+  module _ (z : A) where
+    pub side-more : (s : Side A) (l : List A) (x : A) → s ≡ side_of z l → length l < 8 →
+        record { items = set s.items s.count x; count = s.count + 1 } ≡ side_of z (l ++ (x ∷ []))
+    side-more s l x e h = rw (e, pad-set 8 z x l h, length-append)
 
-  module _ (z : A) (l : List A) where
-    pub fill_more : length l ≤ 8 → (i : ℕ) (items : List A) (x d : A) → items ≡ pad_to 8 z (take i l) → i < length l → x ≡ get_or l i d →
-        set items i x ≡ pad_to 8 z (take (i + 1) l)
-    fill_more room i items x d e h g =
-        let m : length (take i l) ≡ i = length-take-le i l (omega arith) in
-        rw (e, g, add-one, take-suc l i d h)
-        (ap (λ (k : ℕ). set (pad_to 8 z (take i l)) k (get_or l i d)) (sym m) ∙ pad-set 8 z (get_or l i d) (take i l) (omega arith))
+    pub side-next : (f : A → A) (l : List A) (i : ℕ) (s : Side A) (x d : A) → s ≡ side_of z (map f (take i l)) → i < length l → length l ≤ 8 →
+        x ≡ f (get_or l i d) → record { items = set s.items s.count x; count = s.count + 1 } ≡ side_of z (map f (take (i + 1) l))
+    side-next f l i s x d e h room g =
+        let n : length (map f (take i l)) ≡ i = length-map (take i l) f ∙ length-take-le i l (omega arith) in
+        let t : take (i + 1) l ≡ take i l ++ (get_or l i d ∷ []) = rw add-one (take-suc l i d h) in
+        let m : map f (take (i + 1) l) ≡ map f (take i l) ++ (x ∷ []) = ap (map f) t ∙ map-append f (take i l) (get_or l i d ∷ []) ∙ rw g in
+        side-more s (map f (take i l)) x e (omega (arith, n)) ∙ ap (side_of z) (sym m)
 
-    pub fill-all : (i : ℕ) (items : List A) → items ≡ pad_to 8 z (take i l) → i ≡ length l → items ≡ pad_to 8 z l
-    fill-all i items e h = e ∙ ap (pad_to 8 z) (ap (λ (k : ℕ). take k l) h ∙ take-length l)
+    -- one more at the end if fewer than eight wait
+    module _ (f : A → A) (l : List A) (s : Side A) (e : s ≡ side_of z (map f l)) where
+      counted : s.count ≡ length l
+      counted = ap (λ (r : Side A). r.count) e ∙ length-map l f
+
+      pub side-full : (x : A) → 8 ≤ s.count → s ≡ side_of z (map f (appended l x))
+      side-full x h = rw (joined-full l x (omega (arith, counted))) e
+
+      pub side-joined : (x y : A) → y ≡ f x → s.count < 8 →
+          record { items = set s.items s.count y; count = s.count + 1 } ≡ side_of z (map f (appended l x))
+      side-joined x y g h =
+          let m : length l < 8 = omega (arith, counted) in
+          rw (joined-room l x m, map-append f l (x ∷ []), ← g) (side-more s (map f l) y e (omega (arith, length-map l f)))
 
 -- ---- laid over zeros
 pad-laid : (n : ℕ) (l : List ℕ) → length l ≤ n → laid 0 l (replicate n 0) ≡ pad_to n 0 l
@@ -65,114 +79,38 @@ signed-laid r n t h e p =
     pad-laid 104 d (omega (arith, length-take r.len r.signature)) in
     rw (z, e)
 
--- ---- the requests: n wait, and those after the first g are moved to the front, one by one
-module _ (s : Requests) (eight : length s.items ≡ 8) (n g : ℕ) (counted : n ≡ length (waiting s)) (within : n ≤ 8) where
-  abbrev moved : List Request
-  moved = drop g (take n s.items)
+-- ---- the two sides
+pub requests_held : (l : List Request) → side_of no_request (map (λ (r : Request). r) l) ≡ requests_holding l
+unfolding requests_holding
+requests_held l = ap (side_of no_request) (map-id l)
 
-  moved_length : length moved ≡ n - g
-  moved_length = length-drop g (take n s.items) ∙ ap (λ (k : ℕ). k - g) (length-take-le n s.items (omega arith))
+pub responses_held : (l : List Response) → side_of no_response (map (λ (r : Response). response_holding (signed_in r)) l) ≡ responses_holding (map signed_in l)
+unfolding responses_holding
+responses_held l =
+    ap (side_of no_response) (sym (map-map response_holding signed_in l)) ∙
+    ap (λ (n : ℕ). record { items = pad_to 8 no_response (map response_holding (map signed_in l)); count = n })
+    (length-map (map signed_in l) response_holding)
 
-  moved-waiting : moved ≡ drop g (waiting s)
-  unfolding waiting
-  moved-waiting = ap (drop g) (ap (λ (k : ℕ). take k s.items) counted ∙ taken-all s.count s.items)
+-- the responses without the oldest g
+pub responses-after : (g : ℕ) (s : Side Response) →
+    side_of no_response (map (λ (r : Response). response_holding (signed_in r)) (drop g (waiting s))) ≡ responses_holding (drop g (waiting_signed s))
+unfolding waiting_signed
+responses-after g s = responses_held (drop g (waiting s)) ∙ ap responses_holding (sym (drop-map signed_in g (waiting s)))
 
-  pub requests-more : (i : ℕ) (items : List Request) (d : Request) → items ≡ pad_to 8 no_request (take i moved) → i < n - g →
-      set items i (get_or s.items (g + i) d) ≡ pad_to 8 no_request (take (i + 1) moved)
-  requests-more i items d e h =
-      fill_more no_request moved (omega (arith, moved_length)) i items _ d e (omega (arith, moved_length))
-      (sym (get_or-drop g (take n s.items) i d ∙ get_or-take n s.items (g + i) d (omega arith)))
+-- a response more at the end
+appended-signed : (l : List Response) (x : Response) → map signed_in (appended l x) ≡ appended (map signed_in l) (signed_in x)
+unfolding appended
+appended-signed l x = rw length-map (cond-map (ltb (length l) 8))
+  where
+    cond-map : (b : Bool) → map signed_in (cond b (l ++ (x ∷ [])) l) ≡ cond b (map signed_in l ++ (signed_in x ∷ [])) (map signed_in l)
+    cond-map true = map-append signed_in l (x ∷ [])
+    cond-map false = refl
 
-  pub requests-all : (i : ℕ) (items : List Request) → items ≡ pad_to 8 no_request (take i moved) → i ≡ n - g →
-      record { items = items; count = n - g } ≡ requests_holding (drop g (waiting s))
-  unfolding requests_holding
-  requests-all i items e h = rw (fill-all no_request moved i items e (h ∙ sym moved_length), ← moved_length, moved-waiting)
-
-  pub requests-none : (items : List Request) → items ≡ pad_to 8 no_request [] → n ≤ g →
-      record { items = items; count = 0 } ≡ requests_holding (drop g (waiting s))
-  requests-none items e h =
-      let k : 0 ≡ n - g = omega arith in
-      ap (λ (j : ℕ). record { items = items; count = j }) k ∙ requests-all 0 items e k
-
--- ---- the responses, each with zeros after its signature
-module _ (s : Responses) (eight : length s.items ≡ 8) (n g : ℕ) (counted : n ≡ length (waiting_items s)) (within : n ≤ 8) where
-  abbrev behind : List Signed
-  behind = drop g (map signed_in (take n s.items))
-
-  behind-length : length behind ≡ n - g
-  behind-length =
-      length-drop g (map signed_in (take n s.items)) ∙ ap (λ (k : ℕ). k - g)
-      (length-map (take n s.items) signed_in ∙ length-take-le n s.items (omega arith))
-
-  held-length : length (map response_holding behind) ≡ n - g
-  held-length = length-map behind response_holding ∙ behind-length
-
-  behind-ready : behind ≡ drop g (waiting_signed s)
-  unfolding waiting_signed waiting_items
-  behind-ready =
-      ap (λ (l : List Response). drop g (map signed_in l)) (ap (λ (k : ℕ). take k s.items) counted ∙ taken-all s.count s.items)
-
-  pub responses-more : (i : ℕ) (items : List Response) (x d : Response) → x ≡ response_holding (signed_in (get_or s.items (g + i) d)) →
-      items ≡ pad_to 8 no_response (take i (map response_holding behind)) → i < n - g →
-      set items i x ≡ pad_to 8 no_response (take (i + 1) (map response_holding behind))
-  responses-more i items x d y e h =
-      fill_more no_response (map response_holding behind) (omega (arith, held-length)) i items x (response_holding (signed_in d)) e
-      (omega (arith, held-length))
-      (y
-      ∙ sym
-      (get_or-map response_holding behind i (signed_in d)
-      ∙ ap response_holding
-      (get_or-drop g (map signed_in (take n s.items)) i (signed_in d) ∙ get_or-map signed_in (take n s.items) (g + i) d ∙
-      ap signed_in (get_or-take n s.items (g + i) d (omega arith)))))
-
-  pub responses-all : (i : ℕ) (items : List Response) → items ≡ pad_to 8 no_response (take i (map response_holding behind)) → i ≡ n - g →
-      record { items = items; count = n - g } ≡ responses_holding (drop g (waiting_signed s))
-  unfolding responses_holding
-  responses-all i items e h =
-      rw (fill-all no_response (map response_holding behind) i items e (h ∙ sym held-length), ← behind-length, behind-ready)
-
-  pub responses-none : (items : List Response) → items ≡ pad_to 8 no_response [] → n ≤ g →
-      record { items = items; count = 0 } ≡ responses_holding (drop g (waiting_signed s))
-  responses-none items e h =
-      let k : 0 ≡ n - g = omega arith in
-      ap (λ (j : ℕ). record { items = items; count = j }) k ∙ responses-all 0 items e k
-
--- ---- one more at the end if fewer than eight wait
-module _ (k : Requests) (l : List Request) (x : Request) (e : k ≡ requests_holding l) where
-  counted-requests : k.count ≡ length l
-  unfolding requests_holding
-  counted-requests = ap (λ (r : Requests). r.count) e
-
-  pub requests-full : 8 ≤ k.count → k ≡ requests_holding (appended l x)
-  requests-full h = e ∙ ap requests_holding (sym (joined-full l x (omega (arith, counted-requests))))
-
-  pub requests-join : k.count < 8 → record { items = set k.items k.count x; count = k.count + 1 } ≡ requests_holding (appended l x)
-  unfolding requests_holding
-  requests-join h =
-      let m : length l < 8 = omega (arith, counted-requests) in
-      rw (e, joined-room l x m, pad-set 8 no_request x l m, length-append)
-
-module _ (k : Responses) (l : List Signed) (x : Signed) (e : k ≡ responses_holding l) where
-  counted-responses : k.count ≡ length l
-  unfolding responses_holding
-  counted-responses = ap (λ (r : Responses). r.count) e
-
-  pub responses-full : 8 ≤ k.count → k ≡ responses_holding (appended l x)
-  responses-full h = e ∙ ap responses_holding (sym (joined-full l x (omega (arith, counted-responses))))
-
-  pub responses-join : k.count < 8 → record { items = set k.items k.count (response_holding x); count = k.count + 1 } ≡
-      responses_holding (appended l x)
-  unfolding responses_holding
-  responses-join h =
-      let m : length l < 8 = omega (arith, counted-responses) in
-      let n : length (map response_holding l) ≡ length l = length-map l response_holding in
-      let s : set (pad_to 8 no_response (map response_holding l)) (length l) (response_holding x) ≡ pad_to 8 no_response
-      (map response_holding (l ++ (x ∷ []))) =
-      ap (λ (i : ℕ). set (pad_to 8 no_response (map response_holding l)) i (response_holding x)) (sym n)
-      ∙ pad-set 8 no_response (response_holding x) (map response_holding l) (omega arith) ∙
-      ap (pad_to 8 no_response) (sym (map-append response_holding l (x ∷ [])))
-      in
-      rw (e, joined-room l x m, s, length-append)
+pub responses-joined : (s : Side Response) (x : Response) →
+    side_of no_response (map (λ (r : Response). response_holding (signed_in r)) (appended (waiting s) x)) ≡
+    responses_holding (appended (waiting_signed s) (signed_in x))
+unfolding waiting_signed
+responses-joined s x = responses_held (appended (waiting s) x) ∙ ap responses_holding (appended-signed (waiting s) x)
 
 -- ---- the queue that holds some lists is read as those lists
 pad-back : {A : Type 0} (n k : ℕ) (z : A) (l : List A) → k ≡ length l → take k (pad_to n z l) ≡ l
@@ -185,7 +123,7 @@ signed_back [] = refl
 signed_back (s ∷ l) = rw (pad-back 104 (length s.signature) 0 s.signature refl, signed_back l)
 
 pub lists_back : (q : Lists) → lists_of (queue_holding q) ≡ q
-unfolding lists_of waiting waiting_signed waiting_items queue_holding requests_holding responses_holding
+unfolding lists_of waiting waiting_signed queue_holding requests_holding responses_holding
 lists_back q =
     rw (
       pad-back 8 (length q.requests) no_request q.requests refl,

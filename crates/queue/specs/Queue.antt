@@ -1,18 +1,14 @@
 -- The signing queue as lists, the oldest first. "eight requests waiting: AGAIN; otherwise the request joins the end." (CM7.10, CM7.15);
 -- "The oldest request, all its fields, can be asked for; none is a named answer. Freed places are used again." (SQ3, SQ6) Assumes nothing.
-use Rattle.std.specs.Prelude.{ℕ, ◌-◌, cond, List, [], ◌∷◌, ◌++◌, map, length, take, get_or, replicate, ltb, eqb}
+use Rattle.std.specs.Prelude.{ℕ, ◌-◌, cond, List, [], ◌∷◌, ◌++◌, map, length, take, get_or, replicate, ltb, Option, Some, None}
 use Rattle.codes.specs.Codes.{if_ok, answer_of}
 use Rattle.codes.specs.declared.Code.{Code}
 use Rattle.codes.specs.declared.Answer.{Answer}
 use Rattle.queue.specs.declared.Request.{Request}
 use Rattle.queue.specs.declared.Response.{Response}
-use Rattle.queue.specs.declared.Requests.{Requests}
-use Rattle.queue.specs.declared.Responses.{Responses}
+use Rattle.queue.specs.declared.Side.{Side}
 use Rattle.queue.specs.declared.Queue.{Queue}
 use Rattle.queue.specs.declared.QueueResult.{QueueResult}
-use Rattle.queue.specs.declared.Oldest.{Oldest}
-use Rattle.queue.specs.declared.Waiting.{Waiting}
-use Rattle.queue.specs.declared.Waiting.TheVariants.{None, Some}
 
 -- a response: the request's granule and ticket, and the signature
 pub record Signed : Type 0 where
@@ -26,21 +22,17 @@ pub record Lists : Type 0 where
   pub responses : List Signed
 
 -- ---- the lists that the arrays hold: `count` entries, at most eight; `len` bytes of a signature
--- the requests that wait
-unfoldable pub waiting : Requests → List Request
+-- the entries that wait
+unfoldable pub waiting : {T : Type 0} → Side T → List T
 waiting side = take side.count side.items
-
--- the responses that wait, with their arrays
-unfoldable pub waiting_items : Responses → List Response
-waiting_items side = take side.count side.items
 
 -- a response with its signature as a list
 unfoldable pub signed_in : Response → Signed
 signed_in r = record { granule = r.granule; ticket = r.ticket; signature = take r.len r.signature }
 
 -- the responses that wait
-unfoldable pub waiting_signed : Responses → List Signed
-waiting_signed side = map signed_in (waiting_items side)
+unfoldable pub waiting_signed : Side Response → List Signed
+waiting_signed side = map signed_in (waiting side)
 
 -- both sides of a queue as lists (SQ1, SQ7)
 unfoldable pub lists_of : Queue → Lists
@@ -68,29 +60,30 @@ oldest_request l = get_or l 0 no_request
 unfoldable pub oldest_response : List Signed → Signed
 oldest_response l = get_or l 0 (record { granule = 0; ticket = 0; signature = [] })
 
--- whether a request waits
-unfoldable pub waiting_of : List Request → Waiting
-waiting_of l = cond (eqb (length l) 0) None Some
-
--- the oldest request, and whether a request waits (SQ3)
-unfoldable pub oldest_of : List Request → Oldest
-oldest_of l = record { waiting = waiting_of l; request = oldest_request l }
+-- the oldest request, if one waits (SQ3)
+unfoldable pub oldest_of : List Request → Option Request
+oldest_of [] = None
+oldest_of (r ∷ l) = Some r
 
 -- ---- the queue that holds these lists and nothing else: zeros in every place after what waits, and after each signature
 -- the list l, filled with x to n places
 unfoldable pub pad_to : {A : Type 0} → ℕ → A → List A → List A
 pad_to n x l = l ++ replicate (n - length l) x
 
--- the array of these requests
-unfoldable pub requests_holding : List Request → Requests
+-- the side on which these entries wait; a free place holds z
+abbrev pub side_of : {T : Type 0} → T → List T → Side T
+side_of z l = record { items = pad_to 8 z l; count = length l }
+
+-- the side of these requests
+unfoldable pub requests_holding : List Request → Side Request
 requests_holding l = record { items = pad_to 8 no_request l; count = length l }
 
 -- the response with this signature, zeros after it
 unfoldable pub response_holding : Signed → Response
 response_holding s = record { granule = s.granule; ticket = s.ticket; len = length s.signature; signature = pad_to 104 0 s.signature }
 
--- the array of these responses
-unfoldable pub responses_holding : List Signed → Responses
+-- the side of these responses
+unfoldable pub responses_holding : List Signed → Side Response
 responses_holding l = record { items = pad_to 8 no_response (map response_holding l); count = length l }
 
 -- the queue that holds these lists (SQ6)

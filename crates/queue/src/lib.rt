@@ -2,10 +2,10 @@
 // first; taking the oldest moves the others up. A count above eight, which no call leaves, counts as eight.
 #![tactic(auto)]
 
-ghost use Rattle.std.specs.Prelude.{◌≡◌, [], ◌≤◌, length, drop, get_or};
+ghost use Rattle.std.specs.Prelude.{◌≡◌, [], ◌≤◌, length, map, drop, get_or, slice_get};
 ghost use Rattle.codes.specs.Codes.{answer_of};
-ghost use Rattle.queue.specs.Queue.{waiting, waiting_items, waiting_signed, signed_in, lists_of, appended, no_request, no_response, oldest_request, oldest_of};
-ghost use Rattle.queue.specs.Queue.{requests_holding, response_holding, responses_holding, queue_holding};
+ghost use Rattle.queue.specs.Queue.{waiting, signed_in, lists_of, appended, no_request, no_response, oldest_of};
+ghost use Rattle.queue.specs.Queue.{side_of, response_holding, queue_holding};
 
 use codes::{Answer, Code};
 
@@ -36,25 +36,138 @@ pub struct Response {
     pub signature: [u8; SIGNATURE_BYTES],
 }
 
-// The requests that wait, oldest first.
+// What a side of the queue holds. `free` is what a free place holds; `cleared` is an entry with zeros where it says nothing.
+pub trait Entry: Copy {
+    ghost free: { Self };
+
+    ghost cleared: { Self → Self };
+
+    fn free() -> Self
+        ensures { result ≡ free };
+
+    fn cleared(&self) -> Self
+        ensures { result ≡ cleared self.now };
+}
+
+impl Entry for Request {
+    ghost free = { no_request };
+
+    ghost cleared = { λ r. r };
+
+    fn free() -> Request {
+        Request {
+            algorithm: 0,
+            granule: 0,
+            ticket: 0,
+            hashid: 0,
+            hash: [0u8; HASH_BYTES],
+        }
+    }
+
+    fn cleared(&self) -> Request {
+        *self
+    }
+}
+
+impl Entry for Response {
+    ghost free = { no_response };
+
+    ghost cleared = { λ r. response_holding (signed_in r) };
+
+    fn free() -> Response {
+        Response {
+            granule: 0,
+            ticket: 0,
+            len: 0,
+            signature: [0u8; SIGNATURE_BYTES],
+        }
+    }
+
+    // Zeros after the signature.
+    fn cleared(&self) -> Response {
+        let len = signature_len(*self);
+        let mut signature = [0u8; SIGNATURE_BYTES];
+        words::copy(&mut signature, &self.signature[..len]);
+        Response {
+            granule: self.granule,
+            ticket: self.ticket,
+            len,
+            signature,
+        }
+    }
+}
+
+// A side of the queue: the first `count` items wait, oldest first.
 #[derive(Clone, Copy)]
-pub struct Requests {
-    pub items: [Request; PLACES],
+pub struct Side<T> {
+    pub items: [T; PLACES],
     pub count: usize,
 }
 
-// The responses that wait, oldest first.
-#[derive(Clone, Copy)]
-pub struct Responses {
-    pub items: [Response; PLACES],
-    pub count: usize,
+impl<T: Entry> Side<T> {
+    // Returns the entries that wait, oldest first.
+    pub fn waiting(&self) -> &[T]
+        ensures { (result.now ≡ waiting self.now) × (length result.now ≤ 8) }
+    {
+        let n = self.count.min(PLACES);
+        &self.items[..n]
+    }
+
+    // Returns the oldest entry, if one waits.
+    pub fn first(&self) -> Option<T>
+        ensures { result ≡ slice_get (waiting self.now) 0 }
+    {
+        self.waiting().first().copied()
+    }
+
+    // Returns the oldest entry; what a free place holds if none waits.
+    pub fn oldest(&self) -> T
+        ensures { result ≡ get_or (waiting self.now) 0 T.free }
+    {
+        self.first().unwrap_or(T::free())
+    }
+
+    // Returns a side on which nothing waits.
+    pub fn empty() -> Side<T>
+        ensures { result ≡ side_of T.free [] }
+    {
+        Side {
+            items: [T::free(); PLACES],
+            count: 0,
+        }
+    }
+
+    // Drops the oldest `gone` entries, moves the rest up and zeroes the freed places.
+    pub fn after(&self, gone: usize) -> Side<T>
+        ensures { result ≡ side_of T.free (map T.cleared (drop gone (waiting self.now))) }
+    {
+        let waiting = self.waiting();
+        let mut side = Side::empty();
+        for entry in &waiting[gone.min(waiting.len())..] {
+            side.items[side.count] = entry.cleared();
+            side.count += 1;
+        }
+        side
+    }
+
+    // Adds an entry at the end if fewer than eight wait; zeroes every place after those that wait.
+    pub fn joined(&self, entry: T) -> Side<T>
+        ensures { result ≡ side_of T.free (map T.cleared (appended (waiting self.now) entry)) }
+    {
+        let mut side = self.after(0);
+        if side.count < PLACES {
+            side.items[side.count] = entry.cleared();
+            side.count += 1;
+        }
+        side
+    }
 }
 
 // The signing queue: both sides.
 #[derive(Clone, Copy)]
 pub struct Queue {
-    pub requests: Requests,
-    pub responses: Responses,
+    pub requests: Side<Request>,
+    pub responses: Side<Response>,
 }
 
 // The result of a call on the queue: the answer and the next queue.
@@ -64,59 +177,15 @@ pub struct QueueResult {
     pub queue: Queue,
 }
 
-// Whether a request waits.
-#[derive(Clone, Copy)]
-pub enum Waiting {
-    None,
-    Some,
-}
-
-// The oldest request; zeros if no request waits.
-#[derive(Clone, Copy)]
-pub struct Oldest {
-    pub waiting: Waiting,
-    pub request: Request,
-}
-
 impl Queue {
     // Returns a queue with no request and no response.
     pub fn empty() -> Self
         ensures { result ≡ queue_holding (record { requests = []; responses = [] }) }
     {
         Queue {
-            requests: Requests {
-                items: [no_request(); PLACES],
-                count: 0,
-            },
-            responses: Responses {
-                items: [no_response(); PLACES],
-                count: 0,
-            },
+            requests: Side::empty(),
+            responses: Side::empty(),
         }
-    }
-}
-
-// Returns the zeros of a free place.
-fn no_request() -> Request
-    ensures { result ≡ no_request }
-{
-    Request {
-        algorithm: 0,
-        granule: 0,
-        ticket: 0,
-        hashid: 0,
-        hash: [0u8; HASH_BYTES],
-    }
-}
-
-fn no_response() -> Response
-    ensures { result ≡ no_response }
-{
-    Response {
-        granule: 0,
-        ticket: 0,
-        len: 0,
-        signature: [0u8; SIGNATURE_BYTES],
     }
 }
 
@@ -130,175 +199,26 @@ pub fn refused(code: Code, queue: Queue) -> QueueResult
     }
 }
 
-// Returns the number of requests that wait.
-pub fn request_count(side: Requests) -> usize
-    ensures { (result ≡ length (waiting side)) × (result ≤ 8) }
-{
-    let n = side.count;
-    if PLACES < n {
-        return PLACES;
-    }
-    n
-}
-
-// Returns the number of responses that wait.
-pub fn response_count(side: Responses) -> usize
-    ensures { (result ≡ length (waiting_items side)) × (result ≤ 8) }
-{
-    let n = side.count;
-    if PLACES < n {
-        return PLACES;
-    }
-    n
-}
-
 // Returns the number of bytes of a response's signature; a length above 104 counts as 104 (SQ7).
 pub fn signature_len(response: Response) -> usize
     ensures { (result ≡ length (signed_in response).signature) × (result ≤ 104) }
 {
-    let n = response.len;
-    if SIGNATURE_BYTES < n {
-        return SIGNATURE_BYTES;
-    }
-    n
-}
-
-// Returns the response with zeros after its signature.
-fn clear_after_signature(response: Response) -> Response
-    ensures { result ≡ response_holding (signed_in response) }
-{
-    let n = signature_len(response);
-    let from = response.signature;
-    let mut signature = [0u8; SIGNATURE_BYTES];
-    words::copy(&mut signature, &from[..n]);
-    Response {
-        granule: response.granule,
-        ticket: response.ticket,
-        len: n,
-        signature,
-    }
-}
-
-// Drops the oldest `gone` requests, moves the rest up and zeroes the freed places.
-pub fn requests_from(side: Requests, gone: usize) -> Requests
-    ensures { result ≡ requests_holding (drop gone (waiting side)) }
-{
-    let n = request_count(side);
-    let from = side.items;
-    let request = no_request();
-    let mut items = [request; PLACES];
-    if n <= gone {
-        return Requests { items, count: 0 };
-    }
-    let count = n - gone;
-    for i in 0..count {
-        let next = from[gone + i];
-        items[i] = next;
-    }
-    Requests { items, count }
-}
-
-// Drops the oldest `gone` responses, moves the rest up and zeroes the freed places.
-pub fn responses_from(side: Responses, gone: usize) -> Responses
-    ensures { result ≡ responses_holding (drop gone (waiting_signed side)) }
-{
-    let n = response_count(side);
-    let from = side.items;
-    let response = no_response();
-    let mut items = [response; PLACES];
-    if n <= gone {
-        return Responses { items, count: 0 };
-    }
-    let count = n - gone;
-    for i in 0..count {
-        let next = from[gone + i];
-        items[i] = clear_after_signature(next);
-    }
-    Responses { items, count }
+    response.len.min(SIGNATURE_BYTES)
 }
 
 // Returns the queue with zeros in every place where nothing waits.
 pub fn clear_free(queue: Queue) -> Queue
     ensures { result ≡ queue_holding (lists_of queue) }
 {
-    let requests = queue.requests;
-    let responses = queue.responses;
     Queue {
-        requests: requests_from(requests, 0),
-        responses: responses_from(responses, 0),
+        requests: queue.requests.after(0),
+        responses: queue.responses.after(0),
     }
 }
 
-// Adds a request at the end if fewer than eight wait; zeroes every place after those that wait.
-pub fn join_request(side: Requests, request: Request) -> Requests
-    ensures { result ≡ requests_holding (appended (waiting side) request) }
-{
-    let kept = requests_from(side, 0);
-    let n = kept.count;
-    if PLACES <= n {
-        return kept;
-    }
-    let mut items = kept.items;
-    items[n] = request;
-    Requests {
-        items,
-        count: n + 1,
-    }
-}
-
-// Adds a response at the end if fewer than eight wait; zeroes every place after those that wait.
-pub fn join_response(side: Responses, response: Response) -> Responses
-    ensures { result ≡ responses_holding (appended (waiting_signed side) (signed_in response)) }
-{
-    let kept = responses_from(side, 0);
-    let n = kept.count;
-    if PLACES <= n {
-        return kept;
-    }
-    let mut items = kept.items;
-    items[n] = clear_after_signature(response);
-    Responses {
-        items,
-        count: n + 1,
-    }
-}
-
-// Returns the oldest request; zeros if no request waits.
-pub fn first_request(side: Requests) -> Request
-    ensures { result ≡ oldest_request (waiting side) }
-{
-    if request_count(side) == 0 {
-        return no_request();
-    }
-    let requests = side.items;
-    requests[0]
-}
-
-// Returns the oldest response; zeros if no response waits.
-pub fn first_response(side: Responses) -> Response
-    ensures { result ≡ get_or (waiting_items side) 0 no_response }
-{
-    if response_count(side) == 0 {
-        return no_response();
-    }
-    let responses = side.items;
-    responses[0]
-}
-
-// Returns the oldest request with all its fields, and whether a request waits (SQ3).
-pub fn oldest_request(queue: Queue) -> Oldest
+// Returns the oldest request with all its fields, if one waits (SQ3).
+pub fn oldest_request(queue: Queue) -> Option<Request>
     ensures { result ≡ oldest_of (lists_of queue).requests }
 {
-    let requests = queue.requests;
-    let request = first_request(requests);
-    if request_count(requests) == 0 {
-        return Oldest {
-            waiting: Waiting::None,
-            request,
-        };
-    }
-    Oldest {
-        waiting: Waiting::Some,
-        request,
-    }
+    queue.requests.first()
 }

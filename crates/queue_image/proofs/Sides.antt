@@ -8,7 +8,7 @@ use Rattle.words.specs.Word.{part, splice}
 use Rattle.words.proofs.Read.{words_of-length}
 use Rattle.words.proofs.Store.{bytes-in, laid-all}
 use Rattle.queue.specs.declared.Request.{Request}
-use Rattle.queue.specs.Queue.{Signed, waiting, waiting_items, waiting_signed, signed_in, lists_of, oldest_request}
+use Rattle.queue.specs.Queue.{Signed, waiting, waiting_signed, signed_in, lists_of, oldest_request}
 use Rattle.queue_image.specs.Image.{rows, request_in, held_in, response_in, lists_in, queue_in, request_words, response_words, oldest_words}
 use Rattle.queue_image.proofs.Rows.{rows-length}
 
@@ -29,7 +29,7 @@ held-taken (suc n) (x ∷ l) = ap (λ t. signed_in (held_in x) ∷ t) (held-take
 
 -- the queue of an image, by value and as lists
 pub lists-in : (w : List ℕ) → lists_of (queue_in w) ≡ lists_in w
-unfolding lists_of waiting waiting_signed waiting_items queue_in lists_in
+unfolding lists_of waiting waiting_signed queue_in lists_in
 lists-in w = rw held-taken
 
 -- ---- the oldest request

@@ -9,7 +9,7 @@ ghost use Rattle.queue_image.specs.Image.{request_in, held_in, response_in, list
 ghost use Rattle.queue_image.specs.Sides.{request_side, response_side, row_dropped};
 ghost use Rattle.queue_image.specs.Steps.{row_appended};
 
-use queue::{HASH_BYTES, PLACES, Queue, Request, Requests, Response, Responses, SIGNATURE_BYTES};
+use queue::{HASH_BYTES, PLACES, Queue, Request, Response, SIGNATURE_BYTES, Side};
 
 // The image: the number of requests, the number of responses, eight requests, eight responses.
 pub const QUEUE_WORDS: usize = 210;
@@ -81,7 +81,7 @@ fn response_in(image: &[u64], at: usize) -> Response
 }
 
 // Reads all eight places of the requests; `count` is the image's own number.
-fn requests_in(image: &[u64]) -> Requests
+fn requests_in(image: &[u64]) -> Side<Request>
     requires { length image.now ≡ 210 }
     ensures { result ≡ (queue_in image.now).requests }
 {
@@ -89,13 +89,13 @@ fn requests_in(image: &[u64]) -> Requests
     for i in 0..PLACES {
         items[i] = request_in(image, FIRST_REQUEST + REQUEST_WORDS * i);
     }
-    Requests {
+    Side {
         items,
         count: image[REQUESTS] as usize,
     }
 }
 
-fn responses_in(image: &[u64]) -> Responses
+fn responses_in(image: &[u64]) -> Side<Response>
     requires { length image.now ≡ 210 }
     ensures { result ≡ (queue_in image.now).responses }
 {
@@ -103,7 +103,7 @@ fn responses_in(image: &[u64]) -> Responses
     for i in 0..PLACES {
         items[i] = response_in(image, FIRST_RESPONSE + RESPONSE_WORDS * i);
     }
-    Responses {
+    Side {
         items,
         count: image[RESPONSES] as usize,
     }
@@ -161,11 +161,7 @@ fn rows_waiting(image: &[u64], number: usize) -> usize
     requires { number < length image.now }
     ensures { (result ≡ min 8 (get_or image.now number 0)) × (result ≤ 8) }
 {
-    let n = image[number];
-    if PLACES_WORD < n {
-        return PLACES;
-    }
-    n as usize
+    image[number].min(PLACES_WORD) as usize
 }
 
 // Returns the number of requests that wait.
@@ -212,9 +208,7 @@ fn move_up(image: &mut [u64], start: usize, width: usize, n: usize)
     ensures { image.new ≡ splice start (part (start + width) n image.old) image.old }
 {
     let from = start + width;
-    for i in 0..n {
-        image[start + i] = image[from + i];
-    }
+    image.copy_within(from..from + n, start);
 }
 
 // Writes `n` zeros at `at`.
@@ -222,9 +216,7 @@ fn clear(image: &mut [u64], at: usize, n: usize)
     requires { at + n ≤ length image.old }
     ensures { image.new ≡ splice at (replicate n 0) image.old }
 {
-    for i in 0..n {
-        image[at + i] = 0;
-    }
+    image[at..at + n].fill(0);
 }
 
 // Returns the number of rows that wait after the oldest.
@@ -232,11 +224,7 @@ fn rows_behind(image: &[u64], number: usize) -> usize
     requires { number < length image.now }
     ensures { (result ≡ min 8 (get_or image.now number 0) - 1) × (result ≤ 7) }
 {
-    let n = rows_waiting(image, number);
-    if n == 0 {
-        return 0;
-    }
-    n - 1
+    rows_waiting(image, number).saturating_sub(1)
 }
 
 // Drops the oldest row of a side: moves the rows after it up and zeroes the freed place.
@@ -284,11 +272,7 @@ fn len_in(image: &[u64], at: usize) -> usize
     requires { at + 16 ≤ length image.now }
     ensures { (result ≡ length (response_in (part at 16 image.now)).signature) × (result ≤ 104) }
 {
-    let n = image[at + 2];
-    if SIGNATURE_WORD < n {
-        return SIGNATURE_BYTES;
-    }
-    n as usize
+    image[at + 2].min(SIGNATURE_WORD) as usize
 }
 
 // Returns the number of bytes of the signature in the first response.

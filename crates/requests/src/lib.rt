@@ -66,8 +66,6 @@ fn push_code(algorithm: u64, hashid: u64, waiting: usize) -> Code
 pub fn push(buffer: &[u8], queue: Queue) -> QueueResult
     ensures { signing_exit result buffer.now ≡ exit_of queue (push_of buffer.now (lists_of queue)) }
 {
-    let requests = queue.requests;
-    let responses = queue.responses;
     if buffer.len() < REQUEST_BYTES {
         return queue::refused(Code::Inval, queue);
     }
@@ -75,18 +73,16 @@ pub fn push(buffer: &[u8], queue: Queue) -> QueueResult
     let checked = push_code(
         request.algorithm,
         request.hashid,
-        queue::request_count(requests),
+        queue.requests.waiting().len(),
     );
     if !codes::is_ok(checked) {
         return queue::refused(checked, queue);
     }
-    let more = queue::join_request(requests, request);
-    let same = queue::responses_from(responses, 0);
     QueueResult {
         answer: codes::answer_with(Code::Ok, 0, 0),
         queue: Queue {
-            requests: more,
-            responses: same,
+            requests: queue.requests.joined(request),
+            responses: queue.responses.after(0),
         },
     }
 }

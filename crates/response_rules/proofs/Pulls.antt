@@ -9,22 +9,22 @@ use Rattle.codes.specs.Codes.{fails, is_ok, answer_of}
 use Rattle.codes.proofs.Gates.{if-ok-by}
 use Rattle.codes.specs.declared.Code.TheVariants.{Ok, Inval, Again}
 use Rattle.queue.specs.declared.Response.{Response}
-use Rattle.queue.specs.declared.Responses.{Responses}
-use Rattle.queue.specs.Queue.{Signed, Lists, SigningStep, waiting_items, waiting_signed, signed_in, no_response, oldest_response, queued}
+use Rattle.queue.specs.declared.Side.{Side}
+use Rattle.queue.specs.Queue.{Signed, Lists, SigningStep, waiting, waiting_signed, signed_in, no_response, oldest_response, queued}
 use Rattle.response_rules.specs.Pull.{pull_code, pull_of}
 
 -- ---- the responses, as lists
-pub ready-length : (s : Responses) → length (waiting_signed s) ≡ length (waiting_items s)
+pub ready-length : (s : Side Response) → length (waiting_signed s) ≡ length (waiting s)
 unfolding waiting_signed
-ready-length s = length-map (waiting_items s) signed_in
+ready-length s = length-map (waiting s) signed_in
 
 map_first : {A B : Type 0} (f : A → B) (l : List A) (d : A) → get_or (map f l) 0 (f d) ≡ f (get_or l 0 d)
 map_first f [] d = refl
 map_first f (x ∷ l) d = refl
 
-pub ready-first : (s : Responses) (r : Response) → r ≡ get_or (waiting_items s) 0 no_response → oldest_response (waiting_signed s) ≡ signed_in r
+pub ready-first : (s : Side Response) (r : Response) → r ≡ get_or (waiting s) 0 no_response → oldest_response (waiting_signed s) ≡ signed_in r
 unfolding waiting_signed oldest_response signed_in no_response
-ready-first s r h = map_first signed_in (waiting_items s) no_response ∙ ap signed_in (sym h)
+ready-first s r h = map_first signed_in (waiting s) no_response ∙ ap signed_in (sym h)
 
 -- ---- pull
 module _ (size : ℕ) (q : Lists) where

@@ -53,22 +53,18 @@ fn pull_code(size: usize, waiting: usize, len: usize) -> Code
 pub fn pull(buffer: &mut [u8], queue: Queue) -> QueueResult
     ensures { signing_exit result buffer.new ≡ exit_of queue (pull_of buffer.old (lists_of queue)) }
 {
-    let requests = queue.requests;
-    let responses = queue.responses;
-    let response = queue::first_response(responses);
+    let response = queue.responses.oldest();
     let len = queue::signature_len(response);
-    let checked = pull_code(buffer.len(), queue::response_count(responses), len);
+    let checked = pull_code(buffer.len(), queue.responses.waiting().len(), len);
     if !codes::is_ok(checked) {
         return queue::refused(checked, queue);
     }
     put_response(buffer, response);
-    let same = queue::requests_from(requests, 0);
-    let rest = queue::responses_from(responses, 1);
     QueueResult {
         answer: codes::answer_with(Code::Ok, 0, 0),
         queue: Queue {
-            requests: same,
-            responses: rest,
+            requests: queue.requests.after(0),
+            responses: queue.responses.after(1),
         },
     }
 }
@@ -111,24 +107,21 @@ fn sign_code(signature: &[u8], requests: usize, responses: usize) -> Code
 pub fn sign(queue: Queue, signature: &[u8]) -> QueueResult
     ensures { result ≡ sign_exit queue (sign_of (lists_of queue) signature.now) }
 {
-    let requests = queue.requests;
-    let responses = queue.responses;
-    let waiting = queue::request_count(requests);
-    let checked = sign_code(signature, waiting, queue::response_count(responses));
+    let checked = sign_code(
+        signature,
+        queue.requests.waiting().len(),
+        queue.responses.waiting().len(),
+    );
     if !codes::is_ok(checked) {
         return queue::refused(checked, queue);
     }
-    let first = queue::first_request(requests);
-    let rest = queue::requests_from(requests, 1);
-    let more = queue::join_response(
-        responses,
-        response_of(first.granule, first.ticket, signature),
-    );
+    let oldest = queue.requests.oldest();
+    let response = response_of(oldest.granule, oldest.ticket, signature);
     QueueResult {
         answer: codes::answer_with(Code::Ok, 0, 0),
         queue: Queue {
-            requests: rest,
-            responses: more,
+            requests: queue.requests.after(1),
+            responses: queue.responses.joined(response),
         },
     }
 }

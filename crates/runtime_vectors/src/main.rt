@@ -10,7 +10,7 @@
 ghost use Rattle.std.specs.Prelude.{◌≤◌, length};
 
 use codes::{Answer, Work};
-use queue::{Queue, Request, Requests, Response, Responses, Waiting};
+use queue::{Queue, Request, Response, Side};
 use runtime::Reply;
 use token::Session;
 use vector_io::STDOUT;
@@ -130,15 +130,12 @@ fn print_request(request: Request) {
 }
 
 fn print_oldest(queue: Queue) {
-    let oldest = queue::oldest_request(queue);
-    let waiting = oldest.waiting;
-    match waiting {
-        Waiting::None => {
+    match queue::oldest_request(queue) {
+        None => {
             print(b"oldest none\n");
         }
-        Waiting::Some => {
+        Some(request) => {
             print(b"oldest");
-            let request = oldest.request;
             print_request(request);
         }
     }
@@ -156,30 +153,22 @@ fn print_response(response: Response) {
 }
 
 // Prints the waiting requests. A count above 8 counts as 8.
-fn print_requests(side: Requests) {
-    let items = side.items;
-    let waiting = queue::request_count(side);
-    for i in 0..waiting {
+fn print_requests(side: &Side<Request>) {
+    for request in side.waiting() {
         print(b"request");
-        let request = items[i];
-        print_request(request);
+        print_request(*request);
     }
 }
 
-fn print_responses(side: Responses) {
-    let items = side.items;
-    let waiting = queue::response_count(side);
-    for i in 0..waiting {
-        let response = items[i];
-        print_response(response);
+fn print_responses(side: &Side<Response>) {
+    for response in side.waiting() {
+        print_response(*response);
     }
 }
 
 fn print_queue(queue: Queue) {
-    let requests = queue.requests;
-    print_requests(requests);
-    let responses = queue.responses;
-    print_responses(responses);
+    print_requests(&queue.requests);
+    print_responses(&queue.responses);
 }
 
 fn print_same(what: &[u8], held: &[u8], expected: &[u8]) {

@@ -1,21 +1,17 @@
-use mathlib.Core.Path.{◌≡◌, refl, ◌∙◌}
+use Prim.Native.Nat.{◌+◌, ◌-◌}
+use mathlib.Core.Path.{◌≡◌, ◌∙◌}
 use native.Mathlib.Omega.{arith}
-use lib.ListN.{length-set}
-use Rattle.queue_image.proofs.InPlace.{up_to, up_none, up_more}
-use borrow.Author.Rules.{rules}
+use lib.ListN.{length, take, drop, length-drop}
+use lib.Seq.{length-take-le}
+use Rattle.words.specs.Word.{part, splice}
 use Rattle.queue_image.proofs.move_up.Goals as goal
 
-pub loop-i-init : goal.loop-i-init
-loop-i-init c = let a = c.args in (search rules, refl, up_none a.start a.width a.image.now)
-
-pub loop-i-preserved : goal.loop-i-preserved
-loop-i-preserved c =
-    let a = c.args in
-    let l = c.loop-i in
-    (search rules, simp length-set (omega arith), rw l.invariant.2 (up_more a.start a.width a.image.now l.i (omega arith)))
-
 pub returns : goal.returns
-unfolding up_to
+unfolding splice part
 returns c =
-    let e : c.loop-i.i ≡ c.args.n = omega arith in
-    c.loop-i.invariant.2 ∙ rw e
+    let a = c.args in
+    let w = a.image.now in
+    let e : a.start + a.width + a.n - (a.start + a.width) ≡ a.n = omega arith in
+    let l : length (take a.n (drop (a.start + a.width) w)) ≡ a.n =
+    length-take-le a.n (drop (a.start + a.width) w) (omega (arith, c.requires, length-drop (a.start + a.width) w)) in
+    c.copy_within.ensures.after ∙ rw (e, l)

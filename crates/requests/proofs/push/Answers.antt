@@ -5,6 +5,7 @@ use borrow.Author.Tests.{not-true, not-false}
 use Rattle.codes.specs.declared.Code.TheVariants.{Ok, Inval}
 use Rattle.queue.specs.declared.Request.{Request}
 use Rattle.queue.specs.Queue.{waiting, lists_of, queue_holding}
+use Rattle.queue.proofs.Holding.{requests_held, responses-after}
 use Rattle.queue.proofs.Sides.{joined-room}
 use Rattle.queue.proofs.Steps.{refuses, accepts}
 use Rattle.queue_image.proofs.Steps.{ok-is}
@@ -32,7 +33,7 @@ returns-then-not-is_ok c =
     let e = c.push_code-checked.ensures b q l
     (ap (λ (x : Request). x.algorithm) (sym c.request_of-request.ensures))
     (ap (λ (x : Request). x.hashid) (sym c.request_of-request.ensures))
-    (sym c.request_count.ensures.0) in
+    (sym (ap length c.waiting.ensures.0)) in
     refuses (push_code b q) b q a.queue _ c.push_code-checked.result _ c.refused-then-not-is_ok.ensures (sym e)
     (sym c.is_ok.ensures ∙ not-true c.is_ok.result c.if-not-is_ok.true-raw)
 
@@ -46,15 +47,15 @@ returns c =
     let e = c.push_code-checked.ensures b q l
     (ap (λ (x : Request). x.algorithm) (sym c.request_of-request.ensures))
     (ap (λ (x : Request). x.hashid) (sym c.request_of-request.ensures))
-    (sym c.request_count.ensures.0) in
+    (sym (ap length c.waiting.ensures.0)) in
     let o : push_code b q ≡ Ok = sym e ∙ ok-is _ (sym c.is_ok.ensures ∙ not-false
     c.is_ok.result c.if-not-is_ok.false-raw) in
     let r = c.request_of-request in
     let k : length (waiting a.queue.requests) < 8 = (push-passed b q o).1 in
     rw (
       c.answer_with.ensures,
-      c.join_request-more.ensures,
-      c.responses_from-same.ensures,
+      c.joined.ensures ∙ requests_held _,
+      c.after.ensures ∙ responses-after 0 a.queue.responses,
       joined-room
           (waiting a.queue.requests) r.result k,
       r.ensures,

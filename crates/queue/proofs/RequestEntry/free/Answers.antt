@@ -1,6 +1,6 @@
 use mathlib.Core.Path.{refl}
 use Rattle.queue.specs.Queue.{no_request}
-use Rattle.queue.proofs.no_request.Goals as goal
+use Rattle.queue.proofs.RequestEntry.free.Goals as goal
 
 pub returns : goal.returns
 unfolding no_request

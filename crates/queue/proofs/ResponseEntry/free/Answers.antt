@@ -1,6 +1,6 @@
 use mathlib.Core.Path.{refl}
 use Rattle.queue.specs.Queue.{no_response}
-use Rattle.queue.proofs.no_response.Goals as goal
+use Rattle.queue.proofs.ResponseEntry.free.Goals as goal
 
 pub returns : goal.returns
 unfolding no_response
