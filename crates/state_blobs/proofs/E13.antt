@@ -1,17 +1,16 @@
 -- The theorems of E13 on the collector: what it holds after any messages, and that a refused one changes nothing. Assumes nothing.
 use Prim.Native.Nat.{ℕ, ◌+◌, ◌≤◌}
 use mathlib.Core.Path.{◌≡◌, refl, ap, ◌∙◌}
-use mathlib.Core.Bool.{true, false, false≢true}
+use mathlib.Core.Bool.{true, false}
 use mathlib.Core.List.{List, [], ◌∷◌, ◌++◌}
 use native.Mathlib.Omega.{arith}
 use lib.Dec.{eqb}
 use lib.ListN.{length, take, length-append}
 use lib.Seq.{length-take-le, take_at, take-add, take-length}
 use borrow.Author.Tests.{eqb-true}
-use Rattle.std.specs.Prelude.{Err, Some}
+use Rattle.std.specs.Prelude.{Err}
 use Rattle.words.specs.Word.{part, splice}
 use Rattle.words.specs.Tests.{both}
-use Rattle.words.proofs.Tests.{both_l, both_r}
 use Rattle.state_blobs.specs.Collect.{new_collector, is_complete, Outcome, unchanged, piece_appended, collect}
 use Rattle.state_blobs.specs.Blobs.{Offer, Held, started, after_offer, after_offers, CutHere, Cuts, HoldsFirst, HoldsWhole}
 use Rattle.state_messages.specs.declared.StateRefusal.{StateRefusal}

@@ -2,13 +2,13 @@
 -- collected. Assumes nothing.
 use Prim.Native.Nat.{ℕ, ◌+◌, ◌^◌, ◌≤◌, ◌<◌}
 use mathlib.Core.Path.{◌≡◌, refl}
-use mathlib.Core.Bool.{Bool, true, false, not}
+use mathlib.Core.Bool.{Bool, true, false}
 use mathlib.Core.List.{List}
 use native.Mathlib.Omega.{arith}
 use lib.ListN.{length, length-take, length-drop}
 use lib.Dec.{ltb, eqb}
-use borrow.Author.Tests.{le-ltb, eq-eqb, eqb-true}
-use Rattle.std.specs.Prelude.{Ok, Some}
+use borrow.Author.Tests.{le-ltb, eqb-true}
+use Rattle.std.specs.Prelude.{Ok}
 use Rattle.words.specs.Tests.{both}
 use Rattle.words.specs.Word.{part}
 use Rattle.state_messages.specs.Messages.{Fits32Response, response_message}

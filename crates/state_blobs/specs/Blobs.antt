@@ -1,5 +1,5 @@
 -- Calls of one collector with one buffer throughout, and the condition that their responses are cut from one blob. Assumes nothing.
-use Rattle.std.specs.Prelude.{ℕ, ◌+◌, ◌≤◌, ◌≡◌, Bool, true, false, List, [], ◌∷◌, ◌++◌, length, take, eqb, Some, Result, Ok, Err}
+use Rattle.std.specs.Prelude.{ℕ, ◌+◌, ◌≤◌, ◌≡◌, Bool, false, List, [], ◌∷◌, ◌++◌, length, take, eqb, Some, Result, Ok, Err}
 use Rattle.words.specs.Word.{part}
 use Rattle.state_messages.specs.Messages.{StateResponse, Got, read_response}
 use Rattle.state_messages.specs.declared.StateRefusal.{StateRefusal}

@@ -1,5 +1,5 @@
 -- The collector (SB7). Request E13: "A collector joins responses into a lent buffer, each after the bytes held." Assumes nothing.
-use Rattle.std.specs.Prelude.{ℕ, ◌+◌, Bool, true, false, cond, not, List, length, ltb, eqb, Option, Some, None, Result, Ok, Err}
+use Rattle.std.specs.Prelude.{ℕ, ◌+◌, Bool, false, cond, not, List, length, ltb, eqb, Option, Some, None, Result, Ok, Err}
 use Rattle.words.specs.Tests.{both}
 use Rattle.words.specs.Word.{splice}
 use Rattle.state_messages.specs.Messages.{Got, read_response}

@@ -5,6 +5,7 @@
 ghost use Rattle.std.specs.Prelude.{◌≡◌, ◌+◌, ◌≤◌, length, drop, OnOk};
 ghost use Rattle.words.specs.Word.{splice, on_from};
 ghost use Rattle.big_words.specs.Big.{be_bytes, big_at};
+ghost use Rattle.state_messages.specs.Numbers.{state_refusal_number};
 ghost use Rattle.state_messages.specs.Messages.{head_bytes, read_request, read_response, response_read, Message, write_request, response_of, write_response, length_verdict, largest_verdict, room_verdict};
 
 // A request: the command code, state_flags, the type of blob, and the offset of the piece in the blob.
@@ -47,6 +48,26 @@ pub enum StateRefusal {
     PastTotal,
     PastBuffer,
     NoData,
+}
+
+// The number of a refusal, from 1 to 10.
+impl From<StateRefusal> for u32 {
+    ghost from_gives = { λ why n. n ≡ state_refusal_number why };
+
+    fn from(why: StateRefusal) -> u32 {
+        match why {
+            StateRefusal::CutShort => 1,
+            StateRefusal::TooLong => 2,
+            StateRefusal::WrongCode => 3,
+            StateRefusal::AboveLargest => 4,
+            StateRefusal::Failed => 5,
+            StateRefusal::NoRoom => 6,
+            StateRefusal::TotalDiffers => 7,
+            StateRefusal::PastTotal => 8,
+            StateRefusal::PastBuffer => 9,
+            StateRefusal::NoData => 10,
+        }
+    }
 }
 
 // The 4-byte number at offset `at`, which must be within the slice.
