@@ -6,11 +6,11 @@ use mathlib.Core.Bool.{Bool, true, false, cond}
 use mathlib.Core.List.{List, [], ◌∷◌}
 use lib.ListN.{length}
 use lib.Dec.{ltb}
-use Rattle.state_messages.specs.Messages.{StateResponse, request_message, response_message, Message, not_written, write_message, write_request}
+use Rattle.state_messages.specs.Messages.{StateResponse, request_message, response_message, Message, written_after, write_message, write_request}
 use Rattle.state_messages.specs.Messages.{write_response}
+use Rattle.std.specs.Prelude.{Ok, Err}
 use Rattle.state_messages.specs.declared.StateRequest.{StateRequest}
 use Rattle.state_messages.specs.declared.StateRefusal.TheVariants as refusal
-use Rattle.state_messages.specs.declared.MessageWritten.TheVariants as wrote
 use Rattle.state_blobs.specs.Collect.{new_collector, is_complete, unchanged, piece_appended, collect}
 use Rattle.state_blobs.specs.Blobs.{Offer, started, after_offer, after_offers, accepted_of, complete_over, Cuts, HoldsFirst, HoldsJoined}
 use Rattle.state_blobs.specs.Blobs.{HoldsWhole}
@@ -46,7 +46,8 @@ exported-refused-changes-nothing o l h =
 -- the same for writing: the buffer, and the word lent for the length
 abbrev tried : Bool → Bool → ℕ → List ℕ → List ℕ → Message
 tried f g n s b =
-    cond f (not_written refusal.AboveLargest b) (cond g (not_written refusal.NoRoom b) (record { answer = wrote.Length n; buffer = s }))
+    written_after (cond f (Err refusal.AboveLargest) (Ok tt)) b
+    (written_after (cond g (Err refusal.NoRoom) (Ok tt)) b (record { answer = Ok n; buffer = s }))
 
 left_by : (f g : Bool) (n : ℕ) (s b : List ℕ) (len : ℕ) → ((write_left (tried f g n s b) len).answer ≡ 0 → ⊥) →
     ((write_left (tried f g n s b) len).buffer ≡ b) × ((write_left (tried f g n s b) len).len ≡ len)

@@ -1,33 +1,14 @@
 -- Answers as numbers, and the collector as three lent words, for C. A refused call leaves each lent word and byte unchanged. Assumes
 -- nothing.
-use Rattle.std.specs.Prelude.{ℕ, not, List, [], ◌∷◌, get_or, eqb}
+use Rattle.std.specs.Prelude.{ℕ, cond, List, [], ◌∷◌, get_or, eqb, Option, Some, None, Result, Ok, Err}
 use Rattle.state_messages.specs.Messages.{Message}
 use Rattle.state_messages.specs.declared.StateRefusal.{StateRefusal}
-use Rattle.state_messages.specs.declared.StateRefusal.TheVariants as refusal
-use Rattle.state_messages.specs.declared.RequestRead.{RequestRead}
-use Rattle.state_messages.specs.declared.RequestRead.TheVariants as asked
-use Rattle.state_messages.specs.declared.ResponseRead.{ResponseRead}
-use Rattle.state_messages.specs.declared.ResponseRead.TheVariants as told
-use Rattle.state_messages.specs.declared.MessageWritten.{MessageWritten}
-use Rattle.state_messages.specs.declared.MessageWritten.TheVariants as wrote
+use Rattle.state_messages.specs.declared.StateRequest.{StateRequest}
+use Rattle.state_messages.specs.declared.Piece.{Piece}
+use Rattle.state_messages.specs.Numbers.{state_refusal_number}
 use Rattle.state_blobs.specs.Collect.{Outcome, collect}
 use Rattle.state_blobs.specs.Blobs.{Offer, Held}
-use Rattle.state_blobs.specs.declared.CollectVerdict.{CollectVerdict}
-use Rattle.state_blobs.specs.declared.CollectVerdict.TheVariants as verdict
 use Rattle.state_blobs.specs.declared.Collector.{Collector}
-
--- the number of a refusal; 0 is the answer of an accepted call (SB4)
-unfoldable pub state_refusal_number : StateRefusal → ℕ
-state_refusal_number refusal.CutShort = 1
-state_refusal_number refusal.TooLong = 2
-state_refusal_number refusal.WrongCode = 3
-state_refusal_number refusal.AboveLargest = 4
-state_refusal_number refusal.Failed = 5
-state_refusal_number refusal.NoRoom = 6
-state_refusal_number refusal.TotalDiffers = 7
-state_refusal_number refusal.PastTotal = 8
-state_refusal_number refusal.PastBuffer = 9
-state_refusal_number refusal.NoData = 10
 
 -- ---- reading: the answer, and the four words lent for the parts
 pub record PartsLeft : Type 0 where
@@ -35,14 +16,14 @@ pub record PartsLeft : Type 0 where
   pub parts : List ℕ
 
 -- after reading a request: code, state_flags, type and offset
-unfoldable pub request_left : RequestRead → List ℕ → PartsLeft
-request_left (asked.Accepted q) ws = record { answer = 0; parts = q.code ∷ q.flags ∷ q.kind ∷ q.offset ∷ [] }
-request_left (asked.Refused why) ws = record { answer = state_refusal_number why; parts = ws }
+unfoldable pub request_left : Result StateRequest StateRefusal → List ℕ → PartsLeft
+request_left (Ok q) ws = record { answer = 0; parts = q.code ∷ q.flags ∷ q.kind ∷ q.offset ∷ [] }
+request_left (Err why) ws = record { answer = state_refusal_number why; parts = ws }
 
 -- after reading a response: state_flags, totlength, offset and length of the data
-unfoldable pub response_left : ResponseRead → List ℕ → PartsLeft
-response_left (told.Accepted p) ws = record { answer = 0; parts = p.flags ∷ p.total ∷ p.at ∷ p.len ∷ [] }
-response_left (told.Refused why) ws = record { answer = state_refusal_number why; parts = ws }
+unfoldable pub response_left : Result Piece StateRefusal → List ℕ → PartsLeft
+response_left (Ok p) ws = record { answer = 0; parts = p.flags ∷ p.total ∷ p.at ∷ p.len ∷ [] }
+response_left (Err why) ws = record { answer = state_refusal_number why; parts = ws }
 
 -- ---- writing: the answer, the word lent for the message's length, and the buffer
 pub record WriteLeft : Type 0 where
@@ -51,9 +32,9 @@ pub record WriteLeft : Type 0 where
   pub buffer : List ℕ
 
 -- after writing: the length is set only if a message was written
-unfoldable pub written_left : MessageWritten → ℕ → List ℕ → WriteLeft
-written_left (wrote.Length n) len b = record { answer = 0; len = n; buffer = b }
-written_left (wrote.Refused why) len b = record { answer = state_refusal_number why; len = len; buffer = b }
+unfoldable pub written_left : Result ℕ StateRefusal → ℕ → List ℕ → WriteLeft
+written_left (Ok n) len b = record { answer = 0; len = n; buffer = b }
+written_left (Err why) len b = record { answer = state_refusal_number why; len = len; buffer = b }
 
 -- the same, from the definition of writing
 abbrev pub write_left : Message → ℕ → WriteLeft
@@ -61,7 +42,12 @@ write_left m len = written_left m.answer len m.buffer
 
 -- ---- the collector as three words: accepted, totlength, bytes held. Any first word except 0 means that a response was accepted. (CE1)
 unfoldable pub collector_of : List ℕ → Collector
-collector_of image = record { accepted = not (eqb (get_or image 0 0) 0); total = get_or image 1 0; held = get_or image 2 0 }
+collector_of image = record { total = cond (eqb (get_or image 0 0) 0) None (Some (get_or image 1 0)); held = get_or image 2 0 }
+
+-- the words of a collector
+abbrev pub words_of : Option ℕ → ℕ → List ℕ
+words_of None held = 0 ∷ 0 ∷ held ∷ []
+words_of (Some total) held = 1 ∷ total ∷ held ∷ []
 
 -- the answer, the collector's words and the buffer
 pub record CollectLeft : Type 0 where
@@ -70,9 +56,9 @@ pub record CollectLeft : Type 0 where
   pub buffer : List ℕ
 
 -- after a call of the collector: its words are set only if the response was accepted
-unfoldable pub verdict_left : CollectVerdict → Collector → List ℕ → List ℕ → CollectLeft
-verdict_left verdict.Accepted c image b = record { answer = 0; image = 1 ∷ c.total ∷ c.held ∷ []; buffer = b }
-verdict_left (verdict.Refused why) c image b = record { answer = state_refusal_number why; image = image; buffer = b }
+unfoldable pub verdict_left : Result (Unit {0}) StateRefusal → Collector → List ℕ → List ℕ → CollectLeft
+verdict_left (Ok u) c image b = record { answer = 0; image = words_of c.total c.held; buffer = b }
+verdict_left (Err why) c image b = record { answer = state_refusal_number why; image = image; buffer = b }
 
 -- the same, from the definition of collecting
 abbrev pub collect_left : Outcome → List ℕ → CollectLeft

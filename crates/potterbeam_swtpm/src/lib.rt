@@ -3,50 +3,45 @@
 // returns 0 or the number of the refusal, and a refused call leaves every lent word and byte unchanged.
 #![tactic(auto)]
 
-ghost use Rattle.std.specs.Prelude.{◌≡◌};
+ghost use Rattle.std.specs.Prelude.{◌≡◌, ℕ, List};
 ghost use Rattle.state_messages.specs.Messages.{read_request, read_response, response_read, write_request, write_response};
 ghost use Rattle.state_blobs.specs.Collect.{is_complete, collect};
-ghost use Rattle.potterbeam_swtpm.specs.Exports.{state_refusal_number, PartsLeft, request_left, response_left, WriteLeft, write_left, CollectLeft, collect_left, collector_of};
+ghost use Rattle.potterbeam_swtpm.specs.Exports.{written_left, PartsLeft, request_left, response_left, WriteLeft, write_left, CollectLeft, collect_left, collector_of, words_of};
 
-use state_blobs::{CollectVerdict, Collector};
-use state_messages::{
-    MessageWritten, RequestRead, ResponseHeader, ResponseRead, StateRefusal, StateRequest,
-};
+use state_blobs::Collector;
+use state_messages::{ResponseHeader, StateRefusal, StateRequest};
 
-// The number of a refusal, from 1 to 10.
-fn refusal_number(why: StateRefusal) -> u32
-    ensures { result ≡ state_refusal_number why }
+// Puts the length of a message that was written into the word lent for it. Returns 0 or the number of the refusal, which leaves that word as it was.
+#[tactic(auto, unfolding(crate::specs::Exports::written_left))]
+fn put_length(written: Result<usize, StateRefusal>, len: &mut usize) -> u32
+    ensures { (b : List ℕ) → ◌≡◌ {A = WriteLeft} (record { answer = result; len = len.new; buffer = b }) (written_left written len.old b) }
 {
-    match why {
-        StateRefusal::CutShort => 1,
-        StateRefusal::TooLong => 2,
-        StateRefusal::WrongCode => 3,
-        StateRefusal::AboveLargest => 4,
-        StateRefusal::Failed => 5,
-        StateRefusal::NoRoom => 6,
-        StateRefusal::TotalDiffers => 7,
-        StateRefusal::PastTotal => 8,
-        StateRefusal::PastBuffer => 9,
-        StateRefusal::NoData => 10,
+    match written {
+        Ok(n) => {
+            *len = n;
+            0
+        }
+        Err(why) => u32::from(why),
     }
 }
 
 // Reads a request, whose command code must be `code`. Sets `parts` to code, state_flags, type and offset.
+#[tactic(auto, unfolding(crate::specs::Exports::request_left))]
 pub fn pbeam_swtpm_read_request(message: &[u8], code: u32, parts: &mut [u32; 4]) -> u32
     ensures { ◌≡◌ {A = PartsLeft} (record { answer = result; parts = parts.new })
         (request_left (read_request code message.now) parts.old) }
 {
-    let read = state_messages::read_request(message, code);
-    match read {
-        RequestRead::Accepted(q) => {
+    match state_messages::read_request(message, code) {
+        Ok(q) => {
             *parts = [q.code, q.flags, q.kind, q.offset];
             0
         }
-        RequestRead::Refused(why) => refusal_number(why),
+        Err(why) => u32::from(why),
     }
 }
 
 // Writes a request at the start of the buffer, and its length to `len`.
+#[tactic(auto, unfolding(crate::specs::Exports::written_left))]
 pub fn pbeam_swtpm_write_request(
     buffer: &mut [u8],
     code: u32,
@@ -58,40 +53,32 @@ pub fn pbeam_swtpm_write_request(
     ensures { ◌≡◌ {A = WriteLeft} (record { answer = result; len = len.new; buffer = buffer.new })
         (write_left (write_request (record { code = code; flags = flags; kind = kind; offset = offset }) buffer.old) len.old) }
 {
-    let written = state_messages::write_request(
-        buffer,
-        StateRequest {
-            code,
-            flags,
-            kind,
-            offset,
-        },
-    );
-    match written {
-        MessageWritten::Length(n) => {
-            *len = n;
-            0
-        }
-        MessageWritten::Refused(why) => refusal_number(why),
-    }
+    let request = StateRequest {
+        code,
+        flags,
+        kind,
+        offset,
+    };
+    put_length(state_messages::write_request(buffer, request), len)
 }
 
 // Reads a response. Sets `parts` to state_flags, totlength, and the offset and length of its data in the message.
+#[tactic(auto, unfolding(crate::specs::Exports::response_left))]
 pub fn pbeam_swtpm_read_response(message: &[u8], largest: u32, parts: &mut [u32; 4]) -> u32
     ensures { ◌≡◌ {A = PartsLeft} (record { answer = result; parts = parts.new })
         (response_left (response_read (read_response largest message.now)) parts.old) }
 {
-    let read = state_messages::read_response(message, largest);
-    match read {
-        ResponseRead::Accepted(piece) => {
+    match state_messages::read_response(message, largest) {
+        Ok(piece) => {
             *parts = [piece.flags, piece.total, piece.at, piece.len];
             0
         }
-        ResponseRead::Refused(why) => refusal_number(why),
+        Err(why) => u32::from(why),
     }
 }
 
 // Writes a response with the given data at the start of the buffer, and its length to `len`.
+#[tactic(auto, unfolding(crate::specs::Exports::written_left))]
 pub fn pbeam_swtpm_write_response(
     buffer: &mut [u8],
     largest: u32,
@@ -109,28 +96,36 @@ pub fn pbeam_swtpm_write_response(
         flags,
         total,
     };
-    let written = state_messages::write_response(buffer, largest, header, bytes);
-    match written {
-        MessageWritten::Length(n) => {
-            *len = n;
-            0
-        }
-        MessageWritten::Refused(why) => refusal_number(why),
-    }
+    put_length(
+        state_messages::write_response(buffer, largest, header, bytes),
+        len,
+    )
 }
 
 // The collector of an image; any first word except 0 means that a response was accepted.
+#[tactic(auto, unfolding(crate::specs::Exports::collector_of))]
 fn collector_of(image: &[u32; 3]) -> Collector
     ensures { result ≡ collector_of image.now }
 {
+    let [accepted, total, held] = *image;
     Collector {
-        accepted: image[0] != 0,
-        total: image[1],
-        held: image[2],
+        total: if accepted != 0 { Some(total) } else { None },
+        held,
+    }
+}
+
+// The image of a collector.
+fn image_of(collector: Collector) -> [u32; 3]
+    ensures { result ≡ words_of collector.total collector.held }
+{
+    match collector.total {
+        Some(total) => [1, total, collector.held],
+        None => [0, 0, collector.held],
     }
 }
 
 // Adds the data of a response to the bytes held in the buffer.
+#[tactic(auto, unfolding(crate::specs::Exports::verdict_left))]
 pub fn pbeam_swtpm_collect(
     image: &mut [u32; 3],
     message: &[u8],
@@ -140,15 +135,13 @@ pub fn pbeam_swtpm_collect(
     ensures { ◌≡◌ {A = CollectLeft} (record { answer = result; image = image.new; buffer = buffer.new })
         (collect_left (collect largest message.now (collector_of image.old) buffer.old) image.old) }
 {
-    let collected = collector_of(image).collect(message, largest, buffer);
-    let verdict = collected.verdict;
-    let next = collected.collector;
-    match verdict {
-        CollectVerdict::Accepted => {
-            *image = [1, next.total, next.held];
+    let mut collector = collector_of(image);
+    match collector.collect(message, largest, buffer) {
+        Ok(()) => {
+            *image = image_of(collector);
             0
         }
-        CollectVerdict::Refused(why) => refusal_number(why),
+        Err(why) => u32::from(why),
     }
 }
 

@@ -1,24 +1,24 @@
 -- The theorems of E13 on the collector: what it holds after any messages, and that a refused one changes nothing. Assumes nothing.
 use Prim.Native.Nat.{ℕ, ◌+◌, ◌≤◌}
 use mathlib.Core.Path.{◌≡◌, refl, ap, ◌∙◌}
-use mathlib.Core.Bool.{true, false, false≢true}
+use mathlib.Core.Bool.{true, false}
 use mathlib.Core.List.{List, [], ◌∷◌, ◌++◌}
 use native.Mathlib.Omega.{arith}
+use lib.Dec.{eqb}
 use lib.ListN.{length, take, length-append}
 use lib.Seq.{length-take-le, take_at, take-add, take-length}
 use borrow.Author.Tests.{eqb-true}
+use Rattle.std.specs.Prelude.{Err}
 use Rattle.words.specs.Word.{part, splice}
 use Rattle.words.specs.Tests.{both}
-use Rattle.words.proofs.Tests.{both_l, both_r}
 use Rattle.state_blobs.specs.Collect.{new_collector, is_complete, Outcome, unchanged, piece_appended, collect}
 use Rattle.state_blobs.specs.Blobs.{Offer, Held, started, after_offer, after_offers, CutHere, Cuts, HoldsFirst, HoldsWhole}
 use Rattle.state_messages.specs.declared.StateRefusal.{StateRefusal}
-use Rattle.state_blobs.specs.declared.CollectVerdict.TheVariants as verdict
-use Rattle.state_blobs.proofs.Collects.{decide-fits, collect-cases, refused-same}
+use Rattle.state_blobs.proofs.Collects.{decide-fits, collect-cases, refused-same, first-some}
 
 pub front-started : (blob b : List ℕ) → HoldsFirst blob (started b)
 unfolding started new_collector
-front-started blob b = record { within = omega arith; bytes = refl; whole = λ e. absurd (false≢true e) }
+front-started blob b = record { within = omega arith; bytes = refl; whole = λ t e. cc }
 
 -- the bytes after those held are the blob's next ones
 front-join : (held : ℕ) (vs b blob : List ℕ) → held ≤ length b → take held b ≡ take held blob → vs ≡ part held (length vs) blob →
@@ -41,7 +41,7 @@ front-after blob o h cut f =
     (record {
       within = omega arith;
       bytes = front-join c.held p.bytes h.buffer blob (omega arith) f.bytes k.1;
-      whole = λ t. k.0;
+      whole = λ t s. cc (k.0);
     }))
 
 pub front-after-all : (blob : List ℕ) (os : List Offer) (h : Held) → Cuts blob os h → HoldsFirst blob h → HoldsFirst blob (after_offers os h)
@@ -63,7 +63,8 @@ unfolding is_complete
 complete-holds-blob blob os b cuts done =
     let c = (after_offers os (started b)).collector in
     let f = held-are-first blob os b cuts in
-    let e : c.held ≡ length blob = eqb-true c.held c.total (both_r _ _ done) ∙ f.whole (both_l _ _ done) in
+    let w = first-some c.total (λ t. eqb c.held t) done in
+    let e : c.held ≡ length blob = eqb-true c.held w.0 w.2 ∙ f.whole w.0 w.1 in
     (e, f.bytes ∙ rw e (take-length blob))
 
 -- a new collector is not complete, though it holds 0 bytes of 0
@@ -73,13 +74,13 @@ new-not-complete = refl
 
 -- ---- Request E13: "On refusal collector and lent buffers stay unchanged.": a refused message, of any kind, from any state
 pub refused-changes-nothing : (o : Offer) (h : Held) {why : StateRefusal} →
-    (collect o.largest o.message h.collector h.buffer).verdict ≡ verdict.Refused why → after_offer o h ≡ h
+    (collect o.largest o.message h.collector h.buffer).verdict ≡ Err why → after_offer o h ≡ h
 unfolding after_offer
 refused-changes-nothing o h r = let s = refused-same o.largest o.message h.collector h.buffer r in rw (s.0, s.1)
 
 -- so refused messages can be left out of any sequence
 pub refused-skipped : (xs ys : List Offer) (o : Offer) (h : Held) {why : StateRefusal} →
-    (collect o.largest o.message (after_offers xs h).collector (after_offers xs h).buffer).verdict ≡ verdict.Refused why →
+    (collect o.largest o.message (after_offers xs h).collector (after_offers xs h).buffer).verdict ≡ Err why →
     after_offers (xs ++ (o ∷ ys)) h ≡ after_offers (xs ++ ys) h
 unfolding after_offers
 refused-skipped [] ys o h r = ap (after_offers ys) (refused-changes-nothing o h r)

@@ -7,6 +7,7 @@ use native.Mathlib.Omega.{arith}
 use lib.ListN.{length, take, length-append}
 use lib.Seq.{length-take-le, take_at}
 use borrow.Author.Tests.{eqb-true}
+use Rattle.std.specs.Prelude.{Some}
 use Rattle.words.specs.Word.{splice}
 use Rattle.words.specs.Tests.{both}
 use Rattle.state_messages.specs.Messages.{StateResponse, read_response}
@@ -32,7 +33,7 @@ over-held [] = refl
 over-held (p ∷ ps) = refl
 
 over-more : (ps : List StateResponse) (p : StateResponse) → other_total (collector_over ps) p.total ≡ false →
-    ◌≡◌ {A = Collector} (record { accepted = true; total = p.total; held = length (joined_data (ps ++ (p ∷ []))) })
+    ◌≡◌ {A = Collector} (record { total = Some p.total; held = length (joined_data (ps ++ (p ∷ []))) })
     (collector_over (ps ++ (p ∷ [])))
 unfolding collector_over other_total both
 over-more [] p h = refl

@@ -2,28 +2,24 @@
 -- collected. Assumes nothing.
 use Prim.Native.Nat.{ℕ, ◌+◌, ◌^◌, ◌≤◌, ◌<◌}
 use mathlib.Core.Path.{◌≡◌, refl}
-use mathlib.Core.Bool.{Bool, true, false, not}
+use mathlib.Core.Bool.{Bool, true, false}
 use mathlib.Core.List.{List}
 use native.Mathlib.Omega.{arith}
 use lib.ListN.{length, length-take, length-drop}
 use lib.Dec.{ltb, eqb}
-use borrow.Author.Tests.{le-ltb, eq-eqb, eqb-true}
+use borrow.Author.Tests.{le-ltb, eqb-true}
+use Rattle.std.specs.Prelude.{Ok}
 use Rattle.words.specs.Tests.{both}
 use Rattle.words.specs.Word.{part}
 use Rattle.state_messages.specs.Messages.{Fits32Response, response_message}
 use Rattle.state_blobs.specs.Collect.{other_total, decide, piece_appended, settle, offer_bytes, collect_got, collect}
 use Rattle.state_blobs.specs.Blobs.{Held, HoldsFirst, MayFollow, piece_of}
-use Rattle.state_blobs.specs.declared.CollectVerdict.TheVariants as verdict
+use Rattle.state_blobs.proofs.Collects.{same_total}
 use Rattle.state_messages.proofs.ReadBack.{response-read}
 
 pub piece-length : (held n : ℕ) (blob : List ℕ) → held + n ≤ length blob → length (part held n blob) ≡ n
 unfolding part
 piece-length held n blob h = simp (length-take, length-drop) (omega arith)
-
-same_total : (a : Bool) (c total : ℕ) → (a ≡ true → c ≡ total) → both a (not (eqb c total)) ≡ false
-unfolding both
-same_total true c total e = rw (eq-eqb c total (e refl))
-same_total false c total e = refl
 
 some-data : (e : Bool) (n held total : ℕ) → (e ≡ true → n ≡ 0) → (n ≡ 0 → held ≡ total) → both e (ltb held total) ≡ false
 unfolding both
@@ -32,12 +28,12 @@ some-data false n held total z d = refl
 
 -- the next n bytes of the blob are accepted; n may be 0 only if nothing is missing
 pub next-accepted : (blob : List ℕ) (h : Held) (n : ℕ) → HoldsFirst blob h → MayFollow blob h n →
-    decide h.collector (length blob) n (length h.buffer) ≡ verdict.Accepted
+    decide h.collector (length blob) n (length h.buffer) ≡ Ok tt
 unfolding decide other_total
 next-accepted blob h n f m =
     let c = h.collector in
     rw (
-      same_total c.accepted c.total (length blob) f.whole,
+      same_total c.total (length blob) f.whole,
       le-ltb (length blob) (c.held + n) m.0,
       le-ltb (length h.buffer) (c.held + n) m.1,
       some-data (eqb n 0) n c.held (length blob) (eqb-true n 0) m.2,

@@ -1,10 +1,9 @@
 -- Calls of one collector with one buffer throughout, and the condition that their responses are cut from one blob. Assumes nothing.
-use Rattle.std.specs.Prelude.{ℕ, ◌+◌, ◌≤◌, ◌≡◌, Bool, true, false, List, [], ◌∷◌, ◌++◌, length, take, eqb}
+use Rattle.std.specs.Prelude.{ℕ, ◌+◌, ◌≤◌, ◌≡◌, Bool, false, List, [], ◌∷◌, ◌++◌, length, take, eqb, Some, Result, Ok, Err}
 use Rattle.words.specs.Word.{part}
-use Rattle.state_messages.specs.Messages.{StateResponse, Got, got, rejected, read_response}
+use Rattle.state_messages.specs.Messages.{StateResponse, Got, read_response}
+use Rattle.state_messages.specs.declared.StateRefusal.{StateRefusal}
 use Rattle.state_blobs.specs.Collect.{new_collector, collect}
-use Rattle.state_blobs.specs.declared.CollectVerdict.{CollectVerdict}
-use Rattle.state_blobs.specs.declared.CollectVerdict.TheVariants as verdict
 use Rattle.state_blobs.specs.declared.Collector.{Collector}
 
 -- a message for the collector, with the largest size of its data
@@ -33,10 +32,10 @@ after_offers [] h = h
 after_offers (o ∷ os) h = after_offers os (after_offer o h)
 
 -- the response if it is accepted, otherwise none
-unfoldable pub accepted_if : CollectVerdict → Got → List StateResponse
-accepted_if verdict.Accepted (got p) = p ∷ []
-accepted_if verdict.Accepted (rejected why) = []
-accepted_if (verdict.Refused why) g = []
+unfoldable pub accepted_if : Result (Unit {0}) StateRefusal → Got → List StateResponse
+accepted_if (Ok u) (Ok p) = p ∷ []
+accepted_if (Ok u) (Err why) = []
+accepted_if (Err why) g = []
 
 -- the accepted responses of a list of messages, in order
 unfoldable pub accepted_of : List Offer → Held → List StateResponse
@@ -50,10 +49,10 @@ unfoldable pub joined_data : List StateResponse → List ℕ
 joined_data [] = []
 joined_data (p ∷ ps) = p.bytes ++ joined_data ps
 
--- the collector after these responses: whether there are any, the totlength of the first, and the number of bytes
+-- the collector after these responses: the totlength of the first, if there are any, and the number of bytes
 unfoldable pub collector_over : List StateResponse → Collector
 collector_over [] = new_collector
-collector_over (p ∷ ps) = record { accepted = true; total = p.total; held = length (joined_data (p ∷ ps)) }
+collector_over (p ∷ ps) = record { total = Some p.total; held = length (joined_data (p ∷ ps)) }
 
 -- whether there are any responses, and their bytes add up to the first one's totlength
 unfoldable pub complete_over : List StateResponse → Bool
@@ -66,8 +65,8 @@ CutFrom blob held p = (p.total ≡ length blob) × (p.bytes ≡ part held (lengt
 
 -- "if each response accepted was cut" (SB9): one message, if it is accepted
 abbrev pub CutHere : List ℕ → Offer → Held → Type 0
-CutHere blob o h = (p : StateResponse) → read_response o.largest o.message ≡ got p →
-    (collect o.largest o.message h.collector h.buffer).verdict ≡ verdict.Accepted → CutFrom blob h.collector.held p
+CutHere blob o h = (p : StateResponse) → read_response o.largest o.message ≡ Ok p →
+    (collect o.largest o.message h.collector h.buffer).verdict ≡ Ok tt → CutFrom blob h.collector.held p
 
 -- the same for each of a list of messages
 unfoldable pub Cuts : List ℕ → List Offer → Held → Type 0
@@ -79,7 +78,7 @@ Cuts blob (o ∷ os) h = CutHere blob o h × Cuts blob os (after_offer o h)
 pub record HoldsFirst (blob : List ℕ) (h : Held) : Type 0 where
   pub within : h.collector.held ≤ length blob
   pub bytes : take h.collector.held h.buffer ≡ take h.collector.held blob
-  pub whole : h.collector.accepted ≡ true → h.collector.total ≡ length blob
+  pub whole : (t : ℕ) → h.collector.total ≡ Some t → t ≡ length blob
 
 -- SB7: "A collector joins responses into a lent buffer": the state holds the data of these responses
 abbrev pub HoldsJoined : List StateResponse → Held → Type 0

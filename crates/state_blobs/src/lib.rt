@@ -1,54 +1,36 @@
 // The collector: joins the pieces of a state blob, each after the bytes held, in a buffer that the caller lends.
 #![tactic(auto)]
 
-ghost use Rattle.std.specs.Prelude.{◌≡◌, ◌+◌, ◌<◌, ◌≤◌, length};
-ghost use Rattle.state_blobs.specs.Collect.{new_collector, is_complete, other_total, decide, outcome, piece_appended, offer_bytes, collect};
+ghost use Rattle.std.specs.Prelude.{◌≡◌, ◌+◌, ◌<◌, ◌≤◌, length, OnOk};
+ghost use Rattle.state_blobs.specs.Collect.{new_collector, is_complete, other_total, decide, Outcome, piece_appended, offer_bytes, collect};
 
-use state_messages::{ResponseRead, StateRefusal};
+use state_messages::StateRefusal;
 
-// Whether a response is accepted, or why not.
-#[derive(Clone, Copy)]
-pub enum CollectVerdict {
-    Accepted,
-    Refused(StateRefusal),
-}
-
-// The part of a blob held so far: whether a response was accepted, the totlength of the first accepted response, and the number of bytes
-// held.
-#[derive(Clone, Copy)]
+// The part of a blob held so far: the totlength of the first accepted response, once there is one, and the number of bytes held.
+#[derive(Clone, Copy, PartialEq, Eq)]
 pub struct Collector {
-    pub accepted: bool,
-    pub total: u32,
+    pub total: Option<u32>,
     pub held: u32,
-}
-
-// The answer of a call, and the collector after it.
-#[derive(Clone, Copy)]
-pub struct CollectResult {
-    pub verdict: CollectVerdict,
-    pub collector: Collector,
 }
 
 impl Collector {
     // A collector that holds nothing.
+    #[tactic(auto, unfolding(crate::specs::Collect::new_collector))]
     pub fn new() -> Collector
         ensures { result ≡ new_collector }
     {
         Collector {
-            accepted: false,
-            total: 0,
+            total: None,
             held: 0,
         }
     }
 
     // Whether the whole blob is held (SB8).
+    #[tactic(auto, unfolding(crate::specs::Collect::is_complete))]
     pub fn is_complete(self) -> bool
         ensures { result ≡ is_complete self }
     {
-        if !self.accepted {
-            return false;
-        }
-        self.held == self.total
+        self.total.is_some_and(|total| self.held == total)
     }
 
     // How many bytes are held: the offset to ask for next.
@@ -59,90 +41,76 @@ impl Collector {
     }
 
     // Whether a response was accepted before, with a totlength other than `total`.
+    #[tactic(auto, unfolding(crate::specs::Collect::other_total))]
     fn other_total(self, total: u32) -> bool
         ensures { result ≡ other_total self total }
     {
-        if self.accepted {
-            return self.total != total;
-        }
-        false
+        self.total.is_some_and(|first| first != total)
     }
 
     // Whether `len` new bytes of a blob of `total` bytes may follow those held, in a buffer of `room` bytes. The sum has 64 bits, so it
     // cannot overflow.
-    fn decide(self, total: u32, len: usize, room: usize) -> CollectVerdict
+    #[tactic(auto, unfolding(crate::specs::Collect::decide, words::specs::Tests::both))]
+    fn decide(self, total: u32, len: usize, room: usize) -> Result<(), StateRefusal>
         requires { len < 0x1_0000_0000 }
-        ensures { result ≡ decide self total len room }
+        ensures verdict { result ≡ decide self total len room }
+        ensures ok { OnOk result ((self.held + len ≤ total) × (self.held + len ≤ room)) }
     {
         let held = self.bytes_held();
         let end = held + len;
         if self.other_total(total) {
-            return CollectVerdict::Refused(StateRefusal::TotalDiffers);
+            return Err(StateRefusal::TotalDiffers);
         }
         if (total as usize) < end {
-            return CollectVerdict::Refused(StateRefusal::PastTotal);
+            return Err(StateRefusal::PastTotal);
         }
         if room < end {
-            return CollectVerdict::Refused(StateRefusal::PastBuffer);
+            return Err(StateRefusal::PastBuffer);
         }
-        if len != 0 {
-            return CollectVerdict::Accepted;
+        if len == 0 && held < total as usize {
+            return Err(StateRefusal::NoData);
         }
-        if held < total as usize {
-            return CollectVerdict::Refused(StateRefusal::NoData);
-        }
-        CollectVerdict::Accepted
+        Ok(())
     }
 
     // Copies new bytes, which must fit, after those held.
-    fn append(self, total: u32, bytes: &[u8], buffer: &mut [u8]) -> CollectResult
-        requires { (self.held + length bytes.now ≤ total) × (self.held + length bytes.now ≤ length buffer.old) }
-        ensures { outcome result buffer.new ≡ piece_appended self total bytes.now buffer.old }
+    fn append(&mut self, total: u32, bytes: &[u8], buffer: &mut [u8])
+        requires { (self.old.held + length bytes.now ≤ total) × (self.old.held + length bytes.now ≤ length buffer.old) }
+        ensures { ◌≡◌ {A = Outcome} (record { verdict = Ok tt; collector = self.new; buffer = buffer.new })
+            (piece_appended self.old total bytes.now buffer.old) }
     {
         let held = self.bytes_held();
         let end = held + bytes.len();
-        let held_after = end as u32;
         words::copy(&mut buffer[held..], bytes);
-        CollectResult {
-            verdict: CollectVerdict::Accepted,
-            collector: Collector {
-                accepted: true,
-                total,
-                held: held_after,
-            },
-        }
+        *self = Collector {
+            total: Some(total),
+            held: end as u32,
+        };
     }
 
     // Copies new bytes after those held if `decide` accepts them.
-    fn offer(self, total: u32, bytes: &[u8], buffer: &mut [u8]) -> CollectResult
+    #[tactic(auto, unfolding(crate::specs::Collect::offer_bytes, crate::specs::Collect::settle, crate::specs::Collect::unchanged))]
+    fn offer(&mut self, total: u32, bytes: &[u8], buffer: &mut [u8]) -> Result<(), StateRefusal>
         requires { length bytes.now < 0x1_0000_0000 }
-        ensures { outcome result buffer.new ≡ offer_bytes self total bytes.now buffer.old }
+        ensures { ◌≡◌ {A = Outcome} (record { verdict = result; collector = self.new; buffer = buffer.new })
+            (offer_bytes self.old total bytes.now buffer.old) }
     {
-        let verdict = self.decide(total, bytes.len(), buffer.len());
-        match verdict {
-            CollectVerdict::Accepted => self.append(total, bytes, buffer),
-            CollectVerdict::Refused(why) => CollectResult {
-                verdict: CollectVerdict::Refused(why),
-                collector: self,
-            },
-        }
+        self.decide(total, bytes.len(), buffer.len())?;
+        self.append(total, bytes, buffer);
+        Ok(())
     }
 
     // Adds the data of a response to the bytes held in the buffer. On a refusal, collector and buffer stay unchanged (SB10).
-    pub fn collect(self, message: &[u8], largest: u32, buffer: &mut [u8]) -> CollectResult
-        ensures { outcome result buffer.new ≡ collect largest message.now self buffer.old }
+    pub fn collect(
+        &mut self,
+        message: &[u8],
+        largest: u32,
+        buffer: &mut [u8],
+    ) -> Result<(), StateRefusal>
+        ensures { ◌≡◌ {A = Outcome} (record { verdict = result; collector = self.new; buffer = buffer.new })
+            (collect largest message.now self.old buffer.old) }
     {
-        let read = state_messages::read_response(message, largest);
-        match read {
-            ResponseRead::Accepted(piece) => self.offer(
-                piece.total,
-                state_messages::data_of(message),
-                buffer,
-            ),
-            ResponseRead::Refused(why) => CollectResult {
-                verdict: CollectVerdict::Refused(why),
-                collector: self,
-            },
-        }
+        let piece = state_messages::read_response(message, largest)?;
+        self.offer(piece.total, state_messages::data_of(message), buffer)
     }
 }

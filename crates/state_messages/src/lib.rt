@@ -2,13 +2,14 @@
 // slices. Every number has 4 bytes, big-endian. `kind` is the type of a blob.
 #![tactic(auto)]
 
-ghost use Rattle.std.specs.Prelude.{◌≡◌, ◌+◌, ◌≤◌, length, drop};
+ghost use Rattle.std.specs.Prelude.{◌≡◌, ◌+◌, ◌≤◌, length, drop, OnOk};
 ghost use Rattle.words.specs.Word.{splice, on_from};
 ghost use Rattle.big_words.specs.Big.{be_bytes, big_at};
-ghost use Rattle.state_messages.specs.Messages.{head_bytes, read_request, read_response, response_read, Message, write_request, response_of, write_response};
+ghost use Rattle.state_messages.specs.Numbers.{state_refusal_number};
+ghost use Rattle.state_messages.specs.Messages.{head_bytes, read_request, read_response, response_read, Message, write_request, response_of, write_response, length_verdict, largest_verdict, room_verdict};
 
 // A request: the command code, state_flags, the type of blob, and the offset of the piece in the blob.
-#[derive(Clone, Copy)]
+#[derive(Clone, Copy, PartialEq, Eq)]
 pub struct StateRequest {
     pub code: u32,
     pub flags: u32,
@@ -17,7 +18,7 @@ pub struct StateRequest {
 }
 
 // The numbers of a response to write: tpm_result, state_flags and totlength. The length field is the length of the data.
-#[derive(Clone, Copy)]
+#[derive(Clone, Copy, PartialEq, Eq)]
 pub struct ResponseHeader {
     pub result: u32,
     pub flags: u32,
@@ -25,7 +26,7 @@ pub struct ResponseHeader {
 }
 
 // An accepted response: state_flags, totlength, and its data as the bytes [at, at + len) of the message.
-#[derive(Clone, Copy)]
+#[derive(Clone, Copy, PartialEq, Eq)]
 pub struct Piece {
     pub flags: u32,
     pub total: u32,
@@ -35,7 +36,7 @@ pub struct Piece {
 
 // Why a message, a buffer or a piece is refused: the reader's reasons in order, the writer's second one, then the collector's. No message is both cut
 // short and too long, so these two share one place in the order.
-#[derive(Clone, Copy)]
+#[derive(Clone, Copy, PartialEq, Eq)]
 pub enum StateRefusal {
     CutShort,
     TooLong,
@@ -49,25 +50,24 @@ pub enum StateRefusal {
     NoData,
 }
 
-// A request, or why it is refused.
-#[derive(Clone, Copy)]
-pub enum RequestRead {
-    Accepted(StateRequest),
-    Refused(StateRefusal),
-}
+// The number of a refusal, from 1 to 10.
+impl From<StateRefusal> for u32 {
+    ghost from_gives = { λ why n. n ≡ state_refusal_number why };
 
-// The piece of a response, or why it is refused.
-#[derive(Clone, Copy)]
-pub enum ResponseRead {
-    Accepted(Piece),
-    Refused(StateRefusal),
-}
-
-// The length of the message that was written, or why none was written.
-#[derive(Clone, Copy)]
-pub enum MessageWritten {
-    Length(usize),
-    Refused(StateRefusal),
+    fn from(why: StateRefusal) -> u32 {
+        match why {
+            StateRefusal::CutShort => 1,
+            StateRefusal::TooLong => 2,
+            StateRefusal::WrongCode => 3,
+            StateRefusal::AboveLargest => 4,
+            StateRefusal::Failed => 5,
+            StateRefusal::NoRoom => 6,
+            StateRefusal::TotalDiffers => 7,
+            StateRefusal::PastTotal => 8,
+            StateRefusal::PastBuffer => 9,
+            StateRefusal::NoData => 10,
+        }
+    }
 }
 
 // The 4-byte number at offset `at`, which must be within the slice.
@@ -78,21 +78,53 @@ fn number_at(s: &[u8], at: usize) -> u32
     big_words::big_at(s, at)
 }
 
+// Refuses a message that is not `whole` bytes long.
+fn check_length(message: &[u8], whole: usize) -> Result<(), StateRefusal>
+    ensures verdict { result ≡ length_verdict (length message.now) whole }
+    ensures ok { OnOk result (length message.now ≡ whole) }
+{
+    if message.len() < whole {
+        return Err(StateRefusal::CutShort);
+    }
+    if whole < message.len() {
+        return Err(StateRefusal::TooLong);
+    }
+    Ok(())
+}
+
+// Refuses data of more than `largest` bytes.
+fn check_largest(len: usize, largest: u32) -> Result<(), StateRefusal>
+    ensures verdict { result ≡ largest_verdict len largest }
+    ensures ok { OnOk result (len ≤ largest) }
+{
+    if (largest as usize) < len {
+        return Err(StateRefusal::AboveLargest);
+    }
+    Ok(())
+}
+
+// Refuses a buffer without room for `whole` bytes.
+fn check_room(buffer: &[u8], whole: usize) -> Result<(), StateRefusal>
+    ensures verdict { result ≡ room_verdict (length buffer.now) whole }
+    ensures ok { OnOk result (whole ≤ length buffer.now) }
+{
+    if buffer.len() < whole {
+        return Err(StateRefusal::NoRoom);
+    }
+    Ok(())
+}
+
 // Reads a request, whose command code must be `code`.
-pub fn read_request(message: &[u8], code: u32) -> RequestRead
+#[tactic(auto, unfolding(crate::specs::Messages::read_request, crate::specs::Messages::request_parts))]
+pub fn read_request(message: &[u8], code: u32) -> Result<StateRequest, StateRefusal>
     ensures { result ≡ read_request code message.now }
 {
-    if message.len() < 16 {
-        return RequestRead::Refused(StateRefusal::CutShort);
-    }
-    if 16 < message.len() {
-        return RequestRead::Refused(StateRefusal::TooLong);
-    }
+    check_length(message, 16)?;
     let own = number_at(message, 0);
     if own != code {
-        return RequestRead::Refused(StateRefusal::WrongCode);
+        return Err(StateRefusal::WrongCode);
     }
-    RequestRead::Accepted(StateRequest {
+    Ok(StateRequest {
         code: own,
         flags: number_at(message, 4),
         kind: number_at(message, 8),
@@ -108,27 +140,20 @@ fn response_length(len: u32) -> usize
 }
 
 // Reads a response, whose data must have at most `largest` bytes.
-pub fn read_response(message: &[u8], largest: u32) -> ResponseRead
+#[tactic(auto, unfolding(crate::specs::Messages::read_response, crate::specs::Messages::response_read, crate::specs::Messages::response_parts))]
+pub fn read_response(message: &[u8], largest: u32) -> Result<Piece, StateRefusal>
     ensures { result ≡ response_read (read_response largest message.now) }
 {
     if message.len() < 16 {
-        return ResponseRead::Refused(StateRefusal::CutShort);
+        return Err(StateRefusal::CutShort);
     }
     let len = number_at(message, 12);
-    let whole = response_length(len);
-    if message.len() < whole {
-        return ResponseRead::Refused(StateRefusal::CutShort);
-    }
-    if whole < message.len() {
-        return ResponseRead::Refused(StateRefusal::TooLong);
-    }
-    if largest < len {
-        return ResponseRead::Refused(StateRefusal::AboveLargest);
-    }
+    check_length(message, response_length(len))?;
+    check_largest(len as usize, largest)?;
     if number_at(message, 0) != 0 {
-        return ResponseRead::Refused(StateRefusal::Failed);
+        return Err(StateRefusal::Failed);
     }
-    ResponseRead::Accepted(Piece {
+    Ok(Piece {
         flags: number_at(message, 4),
         total: number_at(message, 8),
         at: 16,
@@ -167,12 +192,11 @@ fn put_head(s: &mut [u8], a: u32, b: u32, c: u32, d: u32)
 }
 
 // Writes a request at the start of the buffer. Returns its length.
-pub fn write_request(buffer: &mut [u8], request: StateRequest) -> MessageWritten
+#[tactic(auto, using(crate::proofs::Writes::request_length), unfolding(crate::specs::Messages::write_request, crate::specs::Messages::write_message, crate::specs::Messages::request_message))]
+pub fn write_request(buffer: &mut [u8], request: StateRequest) -> Result<usize, StateRefusal>
     ensures { ◌≡◌ {A = Message} (record { answer = result; buffer = buffer.new }) (write_request request buffer.old) }
 {
-    if buffer.len() < 16 {
-        return MessageWritten::Refused(StateRefusal::NoRoom);
-    }
+    check_room(buffer, 16)?;
     put_head(
         buffer,
         request.code,
@@ -180,37 +204,25 @@ pub fn write_request(buffer: &mut [u8], request: StateRequest) -> MessageWritten
         request.kind,
         request.offset,
     );
-    MessageWritten::Length(16)
+    Ok(16)
 }
 
 // Writes a response with the data `bytes` at the start of the buffer. Returns its length. Refuses data longer than `largest`.
+#[tactic(auto, using(crate::proofs::Writes::response_length), unfolding(crate::specs::Messages::write_response, crate::specs::Messages::write_message))]
 pub fn write_response(
     buffer: &mut [u8],
     largest: u32,
     header: ResponseHeader,
     bytes: &[u8],
-) -> MessageWritten
+) -> Result<usize, StateRefusal>
     ensures { ◌≡◌ {A = Message} (record { answer = result; buffer = buffer.new })
         (write_response largest (response_of header bytes.now) buffer.old) }
 {
-    let len = bytes.len();
-    if (largest as usize) < len {
-        return MessageWritten::Refused(StateRefusal::AboveLargest);
-    }
-    if buffer.len() < 16 {
-        return MessageWritten::Refused(StateRefusal::NoRoom);
-    }
-    if buffer.len() - 16 < len {
-        return MessageWritten::Refused(StateRefusal::NoRoom);
-    }
-    put_head(
-        buffer,
-        header.result,
-        header.flags,
-        header.total,
-        len as u32,
-    );
+    check_largest(bytes.len(), largest)?;
+    let len = bytes.len() as u32;
+    let whole = response_length(len);
+    check_room(buffer, whole)?;
+    put_head(buffer, header.result, header.flags, header.total, len);
     words::copy(&mut buffer[16..], bytes);
-    let end = 16 + len;
-    MessageWritten::Length(end)
+    Ok(whole)
 }

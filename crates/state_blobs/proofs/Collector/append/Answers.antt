@@ -1,14 +1,14 @@
-use Rattle.state_blobs.specs.Collect.{outcome, piece_appended}
+use Rattle.state_blobs.specs.Collect.{piece_appended}
 use Rattle.state_messages.proofs.Writes.{lent-splice}
 use borrow.Author.Rules.{rules}
 use Rattle.state_blobs.proofs.Collector.append.Goals as goal
 
 pub returns : goal.returns
-unfolding outcome piece_appended
+unfolding piece_appended
 returns c =
     let a = c.args in
     rw (
       c.copy.ensures,
       c.bytes_held-held.ensures.0,
-      lent-splice a.self.held a.bytes.now a.buffer.now (search rules),
+      lent-splice a.self.now.held a.bytes.now a.buffer.now (search rules),
     )
