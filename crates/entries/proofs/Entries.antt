@@ -1,7 +1,8 @@
 -- Entries by their offset in the page, for the loops, and that this equals the rules of their words. Assumes nothing.
-use Rattle.std.proofs.Common.{◌≡◌, ℕ, zero, suc, ◌+◌, ◌-◌, ◌*◌, ◌%◌, ◌^◌, ◌<◌, ◌≤◌, Bool, true, false, leb, List, [], ◌∷◌, ◌++◌, get_or, sym, refl, ap, ◌∙◌, add-zero, mul-le-mul_left, mul-suc, add-one, arith, lt-ltb, eq-eqb, ne_eqb, leb-true}
+use Rattle.std.proofs.Common.{◌≡◌, ℕ, zero, suc, ◌+◌, ◌-◌, ◌*◌, ◌%◌, ◌^◌, ◌<◌, ◌≤◌, Bool, true, false, eqb, leb, List, Option, MatchOption, [], ◌∷◌, ◌++◌, get_or, sym, subst, refl, ap, ◌∙◌, add-zero, mul-le-mul_left, mul-suc, add-one, arith, lt-ltb, eq-eqb, leb-true}
 use Rattle.words.specs.Tests.{both}
-use Rattle.words.proofs.Tests.{every-none, every-same}
+use Rattle.words.proofs.Tests.{both_false, every-none, every-same}
+use Rattle.std.specs.Bool.{then_some}
 use Rattle.words.specs.Word.{part, word_at, words_of}
 use Rattle.words.proofs.Read.{words_of-at, words_of-suc, num-part}
 use Rattle.entries.specs.Entry.{words_per_entry, size, entry_ok, entries_ok, sum, check_ok}
@@ -110,9 +111,10 @@ module _ (w k at n count : ℕ) (page : List ℕ) (s : ℕ) (ok : Bool) where
       let p : words_per_entry k ≡ 6 = ap words_per_entry h ∙ per-one in
       rw (p, ← e) (f.0, f.1 ∙ sym (ap (λ x. entries_at w x at n page) h))
 
-  pub banks-found : (k ≡ 1 → ⊥) → n ≡ count → (s ≡ sum_at at (2 * n) page % 2 ^ 64) × (ok ≡ entries_at w k at n page) →
-      (s ≡ sum_at at (words_per_entry k * count) page % 2 ^ 64) × (ok ≡ entries_at w k at count page)
-  banks-found h e f = rw (per-other k h, ← e) f
+-- a value that is there if a test holds
+pub told-if : (b e : Bool) (x s : ℕ) (o : Option ℕ) → o ≡ then_some b x → b ≡ e → x ≡ s → MatchOption o (e ≡ false) (λ y. (e ≡ true) × (y ≡ s))
+told-if true e x s o p q h = subst (λ r. MatchOption r (e ≡ false) (λ y. (e ≡ true) × (y ≡ s))) (sym p) (sym q, h)
+told-if false e x s o p q h = subst (λ r. MatchOption r (e ≡ false) (λ y. (e ≡ true) × (y ≡ s))) (sym p) (sym q)
 
 -- sums that wrap
 pub mod-left : (a b : ℕ) → (a % 2 ^ 64 + b) % 2 ^ 64 ≡ (a + b) % 2 ^ 64
@@ -138,17 +140,24 @@ total-law c p s k x h m t a b d e =
 pub not-zero : (n : ℕ) → (n ≡ 0 → ⊥) → 0 < n
 not-zero n h = omega arith
 
+both_true : (a : Bool) → both a true ≡ a
+unfolding both
+both_true true = refl
+both_true false = refl
+
 -- the rule of an array, given the sums that the code computed
-module _ (w k at c p s : ℕ) (page : List ℕ) (n : c ≡ 0 → ⊥) (z : p % 8 ≡ 0) (x h m t : ℕ) (cx : x ≡ sum_at at (words_per_entry k * c) page % 2 ^ 64)
-    (ch : h ≡ (c + p) % 2 ^ 64) (cm : m ≡ (x + s) % 2 ^ 64) (ct : t ≡ (h + m) % 2 ^ 64) where
-  total : t ≡ (c + p + sum (words_at k c at page) + s) % 2 ^ 64
-  total = total-law c p (sum (words_at k c at page)) s x h m t (cx ∙ ap (λ y. y % 2 ^ 64) (sum-words k at c page)) ch cm ct
+module _ (w k at c p s : ℕ) (page : List ℕ) (n : c ≡ 0 → ⊥) (z : p % 8 ≡ 0) where
+  pub told-unsound : entries_at w k at c page ≡ false → false ≡ sound_of w k c p s (words_at k c at page)
+  unfolding sound_of both
+  told-unsound e = rw (lt-ltb 0 c (not-zero c n), eq-eqb (p % 8) 0 z, entries-same w k at c page, e) (sym (both_false _))
 
-  pub told-unsound : (t ≡ 0 → ⊥) → false ≡ sound_of w k c p s (words_at k c at page)
-  unfolding sound_of check_ok both
-  told-unsound q = rw (lt-ltb 0 c (not-zero c n), eq-eqb (p % 8) 0 z, ne_eqb ((c + p + sum (words_at k c at page) + s) % 2 ^ 64) 0 (λ y. q (total ∙ y)))
+  module _ (x h m t : ℕ) (cx : x ≡ sum_at at (words_per_entry k * c) page % 2 ^ 64)
+      (ch : h ≡ (c + p) % 2 ^ 64) (cm : m ≡ (x + s) % 2 ^ 64) (ct : t ≡ (h + m) % 2 ^ 64) where
+    total : t ≡ (c + p + sum (words_at k c at page) + s) % 2 ^ 64
+    total = total-law c p (sum (words_at k c at page)) s x h m t (cx ∙ ap (λ y. y % 2 ^ 64) (sum-words k at c page)) ch cm ct
 
-  pub told-sound : t ≡ 0 → (r : Bool) → r ≡ entries_at w k at c page → r ≡ sound_of w k c p s (words_at k c at page)
-  unfolding sound_of check_ok both
-  told-sound q r e =
-      rw (lt-ltb 0 c (not-zero c n), eq-eqb (p % 8) 0 z, eq-eqb ((c + p + sum (words_at k c at page) + s) % 2 ^ 64) 0 (sym total ∙ q)) (e ∙ sym (entries-same w k at c page))
+    pub told-sound : entries_at w k at c page ≡ true → eqb t 0 ≡ sound_of w k c p s (words_at k c at page)
+    unfolding sound_of check_ok both
+    told-sound e =
+        rw (lt-ltb 0 c (not-zero c n), eq-eqb (p % 8) 0 z, entries-same w k at c page, e)
+        (ap (λ y. eqb y 0) total ∙ sym (both_true (eqb ((c + p + sum (words_at k c at page) + s) % 2 ^ 64) 0)))

@@ -2,7 +2,7 @@
 // A section is its number in ML1 (docs/RULES.md): 0 DRAM banks, 1 consoles, 2 non-coherent regions, 3 coherent regions.
 #![tactic(auto)]
 
-ghost use Rattle.std.specs.Prelude.{◌≡◌, ◌+◌, ◌*◌, ◌%◌, ◌^◌, ◌≤◌, length, ◌≢◌, nat_le};
+ghost use Rattle.std.specs.Prelude.{◌≡◌, ◌+◌, ◌*◌, ◌%◌, ◌^◌, ◌≤◌, length, ◌≢◌, nat_le, true, false, MatchOption};
 ghost use Rattle.words.specs.Tests.{both};
 ghost use Rattle.entries.specs.Entry.{words_per_entry, size, bank_ok, console_ok};
 ghost use Rattle.entries.specs.Array.{words_at, sound_of};
@@ -127,13 +127,6 @@ pub fn consoles_clear(bits: Bits, minor: u64) -> bool
     true
 }
 
-// The result for several entries: the sum of their words modulo 2^64, and whether every entry keeps its rule.
-#[derive(Clone, Copy)]
-struct SumCheck {
-    sum: u64,
-    ok: bool,
-}
-
 // The sum of the `n` words from `at` on, modulo 2^64.
 fn sum_words(page: &[u8], at: usize, n: usize) -> u64
     requires { at + 8 * n ≤ length page.now }
@@ -150,10 +143,10 @@ fn sum_words(page: &[u8], at: usize, n: usize) -> u64
     sum
 }
 
-// Sums and checks `count` banks or regions of section `k` at `at`, in one loop.
-fn sum_and_check_banks(page: &[u8], minor: u64, k: usize, at: usize, count: usize) -> SumCheck
+// The sum of the words of `count` banks or regions of section `k` at `at`, modulo 2^64, if every one keeps its rule. One loop does both.
+fn sum_of_banks(page: &[u8], minor: u64, k: usize, at: usize, count: usize) -> Option<u64>
     requires { (k ≢ 1) × (at + 16 * count ≤ length page.now) }
-    ensures { (result.sum ≡ sum_at at (2 * count) page.now % 2 ^ 64) × (result.ok ≡ entries_at minor k at count page.now) }
+    ensures { MatchOption result (entries_at minor k at count page.now ≡ false) (λ sum. (entries_at minor k at count page.now ≡ true) × (sum ≡ sum_at at (2 * count) page.now % 2 ^ 64)) }
 {
     let mut bits = Bits::none();
     let mut sum: u64 = 0;
@@ -167,8 +160,7 @@ fn sum_and_check_banks(page: &[u8], minor: u64, k: usize, at: usize, count: usiz
         bits = with_bank(bits, base, size);
         from = end;
     }
-    let ok = banks_clear(bits);
-    SumCheck { sum, ok }
+    banks_clear(bits).then_some(sum)
 }
 
 // Whether each of the `count` consoles at `at` keeps its rule.
@@ -189,25 +181,17 @@ fn consoles_ok(page: &[u8], minor: u64, at: usize, count: usize) -> bool
     consoles_clear(bits, minor)
 }
 
-// Sums and checks `count` consoles at `at`. Two loops, because one loop over all six words of a console is slower.
-fn sum_and_check_consoles(page: &[u8], minor: u64, at: usize, count: usize) -> SumCheck
-    requires { at + 48 * count ≤ length page.now }
-    ensures { (result.sum ≡ sum_at at (6 * count) page.now % 2 ^ 64) × (result.ok ≡ entries_at minor 1 at count page.now) }
-{
-    let sum = sum_words(page, at, 6 * count);
-    let ok = consoles_ok(page, minor, at, count);
-    SumCheck { sum, ok }
-}
-
-// Sums and checks `count` entries of section `k` at `at`.
-fn sum_and_check(page: &[u8], minor: u64, k: usize, at: usize, count: usize) -> SumCheck
+// The sum of the words of `count` entries of section `k` at `at`, modulo 2^64, if every one keeps its rule. For consoles two loops, because
+// one loop over all six words of a console is slower.
+fn sum_of_entries(page: &[u8], minor: u64, k: usize, at: usize, count: usize) -> Option<u64>
     requires { at + size k count ≤ length page.now }
-    ensures { (result.sum ≡ sum_at at (words_per_entry k * count) page.now % 2 ^ 64) × (result.ok ≡ entries_at minor k at count page.now) }
+    ensures { MatchOption result (entries_at minor k at count page.now ≡ false) (λ sum. (entries_at minor k at count page.now ≡ true) × (sum ≡ sum_at at (words_per_entry k * count) page.now % 2 ^ 64)) }
 {
     if k == 1 {
-        return sum_and_check_consoles(page, minor, at, count);
+        let sum = sum_words(page, at, 6 * count);
+        return consoles_ok(page, minor, at, count).then_some(sum);
     }
-    sum_and_check_banks(page, minor, k, at, count)
+    sum_of_banks(page, minor, k, at, count)
 }
 
 // The part of a section's rule that is the same in every edition: count, alignment of the pointer, entries and checksum.
@@ -229,11 +213,10 @@ fn array_rules_ok(
     if pointer % 8 != 0 {
         return false;
     }
-    let found = sum_and_check(page, minor, k, at, count as usize);
-    if count.wrapping_add(pointer).wrapping_add(found.sum.wrapping_add(check)) != 0 {
-        return false;
+    match sum_of_entries(page, minor, k, at, count as usize) {
+        Some(sum) => count.wrapping_add(pointer).wrapping_add(sum.wrapping_add(check)) == 0,
+        None => false,
     }
-    found.ok
 }
 
 // The same for any offset and count. Returns false if the array is not within the page.

@@ -85,7 +85,7 @@ pub every_more : (n : ℕ) (f : ℕ → Bool) → every n f ≡ true → f n ≡
 unfolding every both
 every_more n f p q = rw (add-one, p, q)
 
-both_false : (a : Bool) → both a false ≡ false
+pub both_false : (a : Bool) → both a false ≡ false
 unfolding both
 both_false true = refl
 both_false false = refl

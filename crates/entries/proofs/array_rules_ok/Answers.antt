@@ -17,17 +17,14 @@ returns-then-pointer-ne0 c =
     let a = c.args in
     simp (lt-ltb 0 a.count (search rules), ne_eqb (a.pointer % 8) 0 (search rules))
 
-pub returns-then-count-pointer-ne0 : goal.returns-then-count-pointer-ne0
-returns-then-count-pointer-ne0 c =
-    let a = c.args in
-    told-unsound a.minor a.k a.at a.count a.pointer a.check a.page.now
-    c.if-count-eq0.false c.if-pointer-ne0.false _ _ _ _
-    c.sum_and_check-found.ensures.0 refl refl refl c.if-count-pointer-ne0.true
-
-pub returns : goal.returns
-returns c =
+pub returns-in-Some : goal.returns-in-Some
+returns-in-Some c =
     let a = c.args in
     told-sound a.minor a.k a.at a.count a.pointer a.check a.page.now
-    c.if-count-eq0.false c.if-pointer-ne0.false _ _ _ _
-    c.sum_and_check-found.ensures.0 refl refl refl c.if-count-pointer-ne0.false _
-    c.sum_and_check-found.ensures.1
+    c.if-count-eq0.false c.if-pointer-ne0.false _ _ _ _ c.in-Some.ensures.1 refl refl refl c.in-Some.ensures.0
+
+pub returns-in-None : goal.returns-in-None
+returns-in-None c =
+    let a = c.args in
+    told-unsound a.minor a.k a.at a.count a.pointer a.check a.page.now
+    c.if-count-eq0.false c.if-pointer-ne0.false c.in-None.ensures

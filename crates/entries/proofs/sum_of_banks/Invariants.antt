@@ -3,7 +3,7 @@ use Rattle.words.specs.Word.{part, words_of}
 use Rattle.entries.specs.Entry.{sum}
 use Rattle.entries.specs.Steps.{entries_at}
 use Rattle.entries.specs.Fast.{bank_clear}
-use Rattle.entries.proofs.sum_and_check_banks.Given as goal
+use Rattle.entries.proofs.sum_of_banks.Given as goal
 
 abbrev pub invariant-loop-i : goal.invariant-loop-i
 invariant-loop-i l =

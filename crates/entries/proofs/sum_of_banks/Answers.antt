@@ -5,9 +5,9 @@ use Rattle.words.proofs.Read.{word-lent}
 use Rattle.entries.specs.Entry.{bank_ok, sum}
 use Rattle.entries.specs.Steps.{sum_at}
 use Rattle.entries.specs.Fast.{bank_clear}
-use Rattle.entries.proofs.Entries.{entries_none, sum-bank}
+use Rattle.entries.proofs.Entries.{entries_none, sum-bank, told-if}
 use Rattle.entries.proofs.Fast.{bank-step}
-use Rattle.entries.proofs.sum_and_check_banks.Goals as goal
+use Rattle.entries.proofs.sum_of_banks.Goals as goal
 
 pub loop-i-init : goal.loop-i-init
 unfolding bank_clear both words_of sum
@@ -41,4 +41,4 @@ returns c =
     let a = c.args in
     let l = c.loop-i in
     let e : l.i ≡ a.count = omega arith in
-    (rw e at l.invariant.2, c.banks_clear-ok.ensures ∙ l.invariant.3 ∙ rw e)
+    told-if _ _ _ _ _ c.then_some.ensures (c.banks_clear.ensures ∙ l.invariant.3 ∙ rw e) (rw e at l.invariant.2)
