@@ -88,7 +88,7 @@ fn record_from(shown: &[u8], count: usize) -> GranulesImage
 }
 
 // Sets up the record for a table of `n` granules (BN3, BN4). `shown` has the banks that the reader shows, as the array lookup returns them.
-// INVAL leaves the record unchanged.
+// INVAL leaves the record unchanged. A `Code` and no `Result`: its caller passes the code on as x0, and would turn OK back into one.
 pub fn set_up(shown: &[u8], n: u64, granules: &mut GranulesImage) -> Code
     ensures fact { ◌≡◌ {A = SetUp} (record { code = result; granules = granules.new }) (set_up_of shown.now n granules.old) }
     ensures result_value { number_of result ≡ (if takes shown.now n then pos 0 else minus 5) }

@@ -126,7 +126,8 @@ fn move_shortcut(
     move_at(params, granule, direction, table, words, address)
 }
 
-// A call in either direction.
+// A call in either direction. Each command gets a copy of its own: one copy for both took half as long again (docs/DECISIONS.md).
+#[inline(always)]
 fn single(
     state: Record,
     granules: &GranulesImage,

@@ -48,6 +48,7 @@ pub fn next(words: &[u64], granules: usize, index: usize) -> Result<Option<usize
     }
     let mut at = index / realm_words::WORD_GRANULES;
     let mut bits = high_bits(words[at], index % realm_words::WORD_GRANULES);
+    // Not `position` over the words: the first word alone is masked, so what is done with a hit would stand twice.
     while bits == 0 {
         at += 1;
         if words.len() <= at {

@@ -94,10 +94,8 @@ fn packed_of(block: &[u8]) -> u64
     ensures { result ≡ packed block.now }
 {
     let mut bits: u64 = 0;
-    let mut i = block.len();
-    while 0 < i {
-        i -= 1;
-        bits = realm_bit(block[i]) + 2 * bits;
+    for byte in block.iter().rev() {
+        bits = realm_bit(*byte) + 2 * bits;
     }
     bits
 }

@@ -1,11 +1,9 @@
-use Prim.Native.Nat.{◌≤◌}
-use mathlib.Core.Path.{◌≡◌}
-use lib.ListN.{length, drop}
+use Rattle.std.proofs.Common.{◌≡◌, ◌≤◌, ◌-◌, length, drop}
 use Rattle.realm_words.specs.Bits.{packed}
 use Rattle.realm_words.proofs.packed_of.Given as goal
 
-abbrev pub invariant-loop-i : goal.invariant-loop-i
-invariant-loop-i l = (l.i ≤ length l.block) × (l.bits ≡ packed (drop l.i l.block))
-
-abbrev pub decreases-loop-i : goal.decreases-loop-i
-decreases-loop-i l = l.i
+abbrev pub invariant-loop-byte : goal.invariant-loop-byte
+invariant-loop-byte l =
+    (goal.iterator-loop-byte).can_next l.byte-iterator ×
+    (goal.iterator-loop-byte).is_finite l.byte-iterator ×
+    (length l.yielded ≤ length l.block) × (l.bits ≡ packed (drop (length l.block - length l.yielded) l.block))
