@@ -24,56 +24,49 @@ pub enum Opcode {
     Other,
 }
 
-fn opcode_of(n: u64) -> Opcode
-    ensures { result ≡ opcode_of n }
-{
-    match n {
-        1 => Opcode::Push,
-        2 => Opcode::Pull,
-        3 => Opcode::Key,
-        _ => Opcode::Other,
-    }
-}
+// Compares all 64 bits.
+impl From<u64> for Opcode {
+    ghost from_gives = { λ n o. o ≡ opcode_of n };
 
-// Whether the opcode is not 1, 2 or 3.
-fn is_other(opcode: u64) -> bool
-    ensures { result ≡ is_other (opcode_of opcode) }
-{
-    match opcode {
-        1 => false,
-        2 => false,
-        3 => false,
-        _ => true,
-    }
-}
-
-// Whether the opcode is 3 and the curve is not 0.
-fn bad_curve(opcode: u64, curve: u64) -> bool
-    ensures { result ≡ bad_curve (opcode_of opcode) curve }
-{
-    match opcode {
-        1 => false,
-        2 => false,
-        3 => {
-            if curve == 0 {
-                return false;
-            }
-            true
+    fn from(n: u64) -> Opcode {
+        match n {
+            1 => Opcode::Push,
+            2 => Opcode::Pull,
+            3 => Opcode::Key,
+            _ => Opcode::Other,
         }
-        _ => false,
+    }
+}
+
+impl Opcode {
+    // Whether the opcode is not 1, 2 or 3.
+    fn is_other(self) -> bool
+        ensures { result ≡ is_other self }
+    {
+        matches!(self, Opcode::Other)
+    }
+
+    // Whether `curve` is refused: only opcode 3 has a curve, and it must be 0.
+    fn refuses_curve(self, curve: u64) -> bool
+        ensures { result ≡ bad_curve self curve }
+    {
+        match self {
+            Opcode::Key => curve != 0,
+            _ => false,
+        }
     }
 }
 
 // Runs the checks that all opcodes share; returns the buffer's offset in the page.
-fn common_checks(state: Record, len: usize, opcode: u64, pa: u64, size: u64, curve: u64) -> Gate
-    ensures { result ≡ gated (shared_code state len (opcode_of opcode) pa size curve) (place_of (boot_params state) pa) }
+fn common_checks(state: Record, len: usize, opcode: Opcode, pa: u64, size: u64, curve: u64) -> Gate
+    ensures { result ≡ gated (shared_code state len opcode pa size curve) (place_of (boot_params state) pa) }
 {
-    let first = codes::code_if(is_other(opcode), Code::Inval);
+    let first = codes::code_if(opcode.is_other(), Code::Inval);
     let gate = buffer_check::page_gate(state, len, first, OutsideAs::Invalid, pa, size);
     let Gate::Go(at) = gate else {
         return gate;
     };
-    if bad_curve(opcode, curve) {
+    if opcode.refuses_curve(curve) {
         return Gate::Stop(Code::Inval);
     }
     let params = codes::boot_params(state);
@@ -147,10 +140,11 @@ pub fn token_signing(
     ensures { signing_exit result page.new
         ≡ exit_of queue (signing_of state page.old (lists_of queue) key.now opcode pa size curve) }
 {
+    let opcode = Opcode::from(opcode);
     let gate = common_checks(state, page.len(), opcode, pa, size, curve);
     match gate {
         Gate::Stop(code) => queue::refused(code, queue),
-        Gate::Go(at) => serve(page, at, size, queue, key, opcode_of(opcode)),
+        Gate::Go(at) => serve(page, at, size, queue, key, opcode),
     }
 }
 
@@ -190,9 +184,10 @@ pub fn token_signing_image(
     ensures { ◌≡◌ {A = ImageStep} (record { answer = result; page = page.new; image = image.new })
         (signing_on state page.old image.old key.now opcode pa size curve) }
 {
+    let opcode = Opcode::from(opcode);
     let gate = common_checks(state, page.len(), opcode, pa, size, curve);
     match gate {
         Gate::Stop(code) => codes::answer_with(code, 0, 0),
-        Gate::Go(at) => serve_image(page, at, size, image, key, opcode_of(opcode)),
+        Gate::Go(at) => serve_image(page, at, size, image, key, opcode),
     }
 }

@@ -11,14 +11,14 @@ pub serve-requires : goal.serve-requires
 serve-requires c =
     let a = c.args in
     told-room a.state a.page.now a.opcode a.pa a.size a.curve _
-    c.common_checks-gate.ensures _ c.in-Go.is
+    (rw c.from-opcode.ensures at c.common_checks-gate.ensures) _ c.in-Go.is
 
 pub returns-in-Stop : goal.returns-in-Stop
 unfolding signing_of
 returns-in-Stop c =
     let a = c.args in
     let g = told-stop a.state a.page.now a.opcode a.pa a.size a.curve _
-    c.common_checks-gate.ensures _ c.in-Stop.is in
+    (rw c.from-opcode.ensures at c.common_checks-gate.ensures) _ c.in-Stop.is in
     refuses (shared_code a.state (length a.page.now) (opcode_of a.opcode) a.pa a.size a.curve) a.page.now
     (lists_of a.queue) a.queue (op_at (opcode_of a.opcode) (place_of (boot_params a.state) a.pa) a.size a.page.now
     (lists_of a.queue) a.key.now) _ _ c.refused.ensures g.0 g.1
@@ -27,6 +27,6 @@ pub returns-in-Go : goal.returns-in-Go
 returns-in-Go c =
     let a = c.args in
     told-served a.state a.page.now a.opcode a.pa a.size a.curve _
-    c.common_checks-gate.ensures _
-    c.in-Go.is _ c.opcode_of.ensures a.queue
+    (rw c.from-opcode.ensures at c.common_checks-gate.ensures) _
+    c.in-Go.is _ c.from-opcode.ensures a.queue
     a.key.now _ c.serve.ensures

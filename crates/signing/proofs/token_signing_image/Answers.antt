@@ -13,14 +13,14 @@ pub serve_image-requires : goal.serve_image-requires
 serve_image-requires c =
     let a = c.args in
     told-room a.state a.page.now a.opcode a.pa a.size a.curve _
-    c.common_checks-gate.ensures _ c.in-Go.is
+    (rw c.from-opcode.ensures at c.common_checks-gate.ensures) _ c.in-Go.is
 
 pub returns-in-Stop : goal.returns-in-Stop
 unfolding signing_on signing_done signing_of
 returns-in-Stop c =
     let a = c.args in
     let g = told-stop a.state a.page.now a.opcode a.pa a.size a.curve _
-    c.common_checks-gate.ensures _ c.in-Stop.is in
+    (rw c.from-opcode.ensures at c.common_checks-gate.ensures) _ c.in-Stop.is in
     rw (c.answer_with.ensures, ← g.0) (image-refuses (shared_code a.state (length a.page.now) (opcode_of a.opcode) a.pa
     a.size
     a.curve) (op_at (opcode_of a.opcode) (place_of (boot_params a.state) a.pa) a.size a.page.now (lists_in a.image.now)
@@ -33,6 +33,6 @@ pub returns-in-Go : goal.returns-in-Go
 returns-in-Go c =
     let a = c.args in
     told-served-on a.state a.page.now a.opcode a.pa a.size a.curve _
-    c.common_checks-gate.ensures _
-    c.in-Go.is _ c.opcode_of.ensures
+    (rw c.from-opcode.ensures at c.common_checks-gate.ensures) _
+    c.in-Go.is _ c.from-opcode.ensures
     a.image.now a.key.now _ c.serve_image.ensures
