@@ -24,43 +24,36 @@ pub enum Opcode {
     Other,
 }
 
-fn opcode_of(n: u64) -> Opcode
-    ensures { result ≡ opcode_of n }
-{
-    match n {
-        1 => Opcode::Push,
-        2 => Opcode::Pull,
-        3 => Opcode::Key,
-        _ => Opcode::Other,
-    }
-}
+// Compares all 64 bits.
+impl From<u64> for Opcode {
+    ghost from_gives = { λ n o. o ≡ opcode_of n };
 
-// Whether the opcode is not 1, 2 or 3.
-fn is_other(opcode: u64) -> bool
-    ensures { result ≡ is_other (opcode_of opcode) }
-{
-    match opcode {
-        1 => false,
-        2 => false,
-        3 => false,
-        _ => true,
-    }
-}
-
-// Whether the opcode is 3 and the curve is not 0.
-fn bad_curve(opcode: u64, curve: u64) -> bool
-    ensures { result ≡ bad_curve (opcode_of opcode) curve }
-{
-    match opcode {
-        1 => false,
-        2 => false,
-        3 => {
-            if curve == 0 {
-                return false;
-            }
-            true
+    fn from(n: u64) -> Opcode {
+        match n {
+            1 => Opcode::Push,
+            2 => Opcode::Pull,
+            3 => Opcode::Key,
+            _ => Opcode::Other,
         }
-        _ => false,
+    }
+}
+
+impl Opcode {
+    // Whether the opcode is not 1, 2 or 3.
+    fn is_other(self) -> bool
+        ensures { result ≡ is_other self }
+    {
+        matches!(self, Opcode::Other)
+    }
+
+    // Whether `curve` is refused: only opcode 3 has a curve, and it must be 0.
+    fn refuses_curve(self, curve: u64) -> bool
+        ensures { result ≡ bad_curve self curve }
+    {
+        match self {
+            Opcode::Key => curve != 0,
+            _ => false,
+        }
     }
 }
 
@@ -68,16 +61,16 @@ fn bad_curve(opcode: u64, curve: u64) -> bool
 fn common_checks(
     state: Record,
     len: usize,
-    opcode: u64,
+    opcode: Opcode,
     pa: u64,
     size: u64,
     curve: u64,
 ) -> Result<usize, Code>
-    ensures { result ≡ gated (shared_code state len (opcode_of opcode) pa size curve) (place_of (boot_params state) pa) }
+    ensures { result ≡ gated (shared_code state len opcode pa size curve) (place_of (boot_params state) pa) }
 {
-    let first = codes::code_if(is_other(opcode), Code::Inval);
+    let first = codes::code_if(opcode.is_other(), Code::Inval);
     let at = buffer_check::page_gate(state, len, first, OutsideAs::Invalid, pa, size)?;
-    if bad_curve(opcode, curve) {
+    if opcode.refuses_curve(curve) {
         return Err(Code::Inval);
     }
     let params = codes::up_params(state)?;
@@ -150,8 +143,9 @@ pub fn token_signing(
     ensures { signing_exit result page.new
         ≡ exit_of queue (signing_of state page.old (lists_of queue) key.now opcode pa size curve) }
 {
+    let opcode = Opcode::from(opcode);
     match common_checks(state, page.len(), opcode, pa, size, curve) {
-        Ok(at) => serve(page, at, size, queue, key, opcode_of(opcode)),
+        Ok(at) => serve(page, at, size, queue, key, opcode),
         Err(code) => queue::refused(code, queue),
     }
 }
@@ -192,8 +186,9 @@ pub fn token_signing_image(
     ensures { ◌≡◌ {A = ImageStep} (record { answer = result; page = page.new; image = image.new })
         (signing_on state page.old image.old key.now opcode pa size curve) }
 {
+    let opcode = Opcode::from(opcode);
     match common_checks(state, page.len(), opcode, pa, size, curve) {
-        Ok(at) => serve_image(page, at, size, image, key, opcode_of(opcode)),
+        Ok(at) => serve_image(page, at, size, image, key, opcode),
         Err(code) => Answer::refused(code),
     }
 }

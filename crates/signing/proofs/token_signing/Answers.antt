@@ -12,14 +12,14 @@ pub serve-requires : goal.serve-requires
 serve-requires c =
     let a = c.args in
     told-room a.state a.page.now a.opcode a.pa a.size a.curve _
-    c.in-Ok.ensures _ refl
+    (rw c.from-opcode.ensures at c.in-Ok.ensures) _ refl
 
 pub returns-in-Err : goal.returns-in-Err
 unfolding signing_of
 returns-in-Err c =
     let a = c.args in
     let g = told-stop a.state a.page.now a.opcode a.pa a.size a.curve _
-    c.in-Err.ensures _ refl in
+    (rw c.from-opcode.ensures at c.in-Err.ensures) _ refl in
     refuses (shared_code a.state (length a.page.now) (opcode_of a.opcode) a.pa a.size a.curve) a.page.now
     (lists_of a.queue) a.queue (op_at (opcode_of a.opcode) (place_of (boot_params a.state) a.pa) a.size a.page.now
     (lists_of a.queue) a.key.now) _ _ c.refused.ensures g.0 g.1
@@ -28,6 +28,6 @@ pub returns-in-Ok : goal.returns-in-Ok
 returns-in-Ok c =
     let a = c.args in
     told-served a.state a.page.now a.opcode a.pa a.size a.curve _
-    c.in-Ok.ensures _
-    refl _ c.opcode_of.ensures a.queue
+    (rw c.from-opcode.ensures at c.in-Ok.ensures) _
+    refl _ c.from-opcode.ensures a.queue
     a.key.now _ c.serve.ensures

@@ -14,14 +14,14 @@ pub serve_image-requires : goal.serve_image-requires
 serve_image-requires c =
     let a = c.args in
     told-room a.state a.page.now a.opcode a.pa a.size a.curve _
-    c.in-Ok.ensures _ refl
+    (rw c.from-opcode.ensures at c.in-Ok.ensures) _ refl
 
 pub returns-in-Err : goal.returns-in-Err
 unfolding signing_on signing_done signing_of
 returns-in-Err c =
     let a = c.args in
     let g = told-stop a.state a.page.now a.opcode a.pa a.size a.curve _
-    c.in-Err.ensures _ refl in
+    (rw c.from-opcode.ensures at c.in-Err.ensures) _ refl in
     rw (c.refused.ensures, ← g.0) (image-refuses (shared_code a.state (length a.page.now) (opcode_of a.opcode) a.pa
     a.size
     a.curve) (op_at (opcode_of a.opcode) (place_of (boot_params a.state) a.pa) a.size a.page.now (lists_in a.image.now)
@@ -34,6 +34,6 @@ pub returns-in-Ok : goal.returns-in-Ok
 returns-in-Ok c =
     let a = c.args in
     told-served-on a.state a.page.now a.opcode a.pa a.size a.curve _
-    c.in-Ok.ensures _
-    refl _ c.opcode_of.ensures
+    (rw c.from-opcode.ensures at c.in-Ok.ensures) _
+    refl _ c.from-opcode.ensures
     a.image.now a.key.now _ c.serve_image.ensures

@@ -1,7 +1,7 @@
 use borrow.Author.Tests.{ne_eqb}
 use Rattle.signing.specs.Signing.{opcode_of}
 use borrow.Author.Rules.{rules}
-use Rattle.signing.proofs.opcode_of.Goals as goal
+use Rattle.signing.proofs.OpcodeFromU64.from.Goals as goal
 
 pub returns-in-1 : goal.returns-in-1
 unfolding opcode_of
