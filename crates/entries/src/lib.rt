@@ -214,7 +214,10 @@ fn array_rules_ok(
         return false;
     }
     match sum_of_entries(page, minor, k, at, count as usize) {
-        Some(sum) => count.wrapping_add(pointer).wrapping_add(sum.wrapping_add(check)) == 0,
+        Some(sum) => count
+            .wrapping_add(pointer)
+            .wrapping_add(sum.wrapping_add(check))
+            == 0,
         None => false,
     }
 }
