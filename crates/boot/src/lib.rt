@@ -1,7 +1,7 @@
 // Cold and warm boot: each checks the boot registers, cold boot also checks the manifest, and both return the next boot record.
 #![tactic(auto)]
 
-ghost use Rattle.std.specs.Prelude.{◌≡◌, pos, IfOk, IfErr, MatchResult};
+ghost use Rattle.std.specs.Prelude.{◌≡◌, pos, MatchResult};
 ghost use Rattle.boot.specs.Boot.{refused_number, boot_number, cold_code, params_of, cold_next, warm_code, warm_next};
 ghost use Rattle.boot.specs.declared.BootRefusal.TheVariants.{Manifest};
 

@@ -94,7 +94,13 @@ pub extern "C" fn pbeam_read(page: &[u8], base: u64, edition: u64, view: &mut [u
     let mut core = [0u8; 112];
     match reader::judge(page, base, edition, &mut core) {
         Ok(minor) => {
-            show(&core, base, minor, reader::edition_read(edition, minor), view);
+            show(
+                &core,
+                base,
+                minor,
+                reader::edition_read(edition, minor),
+                view,
+            );
             0
         }
         Err(code) => {

@@ -11,8 +11,3 @@ returns-in-Absent c =
     let a = c.args in
     let of = λ (s : Section). span_of a.k s a.room in
     ⊎_elim (λ e. sym (ap of e)) (λ e. sym (ap of e)) c.in-Absent.is
-
-pub returns-in-Entries : goal.returns-in-Entries
-returns-in-Entries c =
-    let a = c.args in
-    c.place_at.ensures ∙ sym (ap (λ s. span_of a.k s a.room) c.in-Entries.is)

@@ -14,12 +14,6 @@ returns-then-count-eq0 c =
     let a = c.args in
     section-empty a.e.minor a.base a.k a.core.now (omega arith) (omega arith)
 
-pub overflow_sub-at : goal.overflow_sub-at
-overflow_sub-at c =
-    let a = c.args in
-    let z : (count_at a.k a.core.now ≡ 0 → ⊥) = (λ e. c.if-count-eq0.false (c.count_at-count.ensures ∙ e)) in
-    omega (arith, c.requires (omega arith) z)
-
 pub returns : goal.returns
 returns c =
     let a = c.args in
