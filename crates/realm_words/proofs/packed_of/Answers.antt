@@ -1,8 +1,8 @@
-use Rattle.std.proofs.Common.{◌≡◌, ℕ, zero, suc, ◌+◌, ◌-◌, ◌*◌, ◌^◌, ◌<◌, ◌≤◌, List, ◌∷◌, [], ◌++◌, length, get_or, reverse, drop, refl, sym, ap, ◌∙◌, arith, rules, length-append}
+use Rattle.std.proofs.Common.{◌≡◌, ℕ, zero, suc, ◌+◌, ◌-◌, ◌<◌, List, ◌∷◌, [], ◌++◌, length, get_or, reverse, refl, ap, ◌∙◌, arith, rules, length-append}
 use Rattle.std.proofs.lemmas.Iterator.Adapters.{YieldsList-from_rev_slice}
 use Rattle.std.proofs.lemmas.Iterator.Consumers.{YieldsList-turn, YieldsList-end}
 use Rattle.std.proofs.lemmas.List.{get_or-reverse, length-reverse}
-use Rattle.realm_words.specs.Bits.{packed, realm_bit}
+use Rattle.realm_words.specs.Bits.{realm_bit}
 use Rattle.realm_words.proofs.Packing.{packed-room, packed_none, packed_more}
 use Rattle.realm_words.proofs.packed_of.Goals as goal
 
@@ -20,7 +20,7 @@ turn-at xs n b t =
     (l, t.1 ∙ get_or-reverse xs n b l ∙ rw e (any-default xs (length xs - n - 1) b 0 (omega arith)))
 
 pub loop-byte-init : goal.loop-byte-init
-loop-byte-init c = 
+loop-byte-init c =
     let z : length c.args.block.now - 0 ≡ length c.args.block.now = omega arith in
     (tt, tt, omega arith, rw z (packed_none c.args.block.now))
 
@@ -49,9 +49,13 @@ loop-byte-preserved c =
     let t = YieldsList-turn (YieldsList-from_rev_slice xs cc) l.yielded _ l.yielded_by _ _ c.in-Some.byte c.in-Some.is c.next.ensures.steps in
     let u = turn-at xs (length l.yielded) c.in-Some.byte.now t in
     let n : length (l.yielded ++ c.in-Some.byte ∷ []) ≡ length l.yielded + 1 = length-append l.yielded (c.in-Some.byte ∷ []) in
-    let e : length xs - (length l.yielded + 1) ≡ length xs - length l.yielded - 1 = omega arith in
-    (tt, tt, rw n (omega (arith, u.0)), rw (n, e) (packed_more xs (length xs - length l.yielded) _ _ (omega (arith, u.0)) (omega arith)
-    (c.realm_bit.ensures.0 ∙ ap realm_bit u.1) l.invariant.3))
+    let e : length xs - (length l.yielded + 1) ≡ length xs - length l.yielded - 1 = omega arith in (
+      tt,
+      tt,
+      rw n (omega (arith, u.0)),
+      rw (n, e) (packed_more xs (length xs - length l.yielded) _ _ (omega (arith, u.0)) (omega arith)
+          (c.realm_bit.ensures.0 ∙ ap realm_bit u.1) l.invariant.3),
+    )
 
 pub returns : goal.returns
 returns c =
