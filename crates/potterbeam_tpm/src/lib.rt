@@ -8,7 +8,7 @@ ghost use Rattle.potterbeam_tpm.specs.Exports.{arguments_of, tpm_session_of, tpm
 
 use tpm::{Arguments, ReturnCode, TpmSession};
 
-// The session of a word: any number except 0 is open.
+// The session of a word: any number except 0 is open. No From: both types would be of other crates.
 #[tactic(auto, unfolding(crate::specs::Exports::tpm_session_of))]
 fn session_of(word: u64) -> TpmSession
     ensures { result ≡ tpm_session_of word }

@@ -28,7 +28,7 @@ pub enum ReturnCode {
     Resource,
 }
 
-// Whether the guest has a TPM session.
+// Whether the guest has a TPM session. No bool: `comm` takes two of these already, and a session is no plainer as a third.
 #[derive(Clone, Copy, PartialEq, Eq)]
 pub enum TpmSession {
     None,
