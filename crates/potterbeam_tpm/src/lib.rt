@@ -8,17 +8,20 @@ ghost use Rattle.potterbeam_tpm.specs.Exports.{arguments_of, tpm_session_of, tpm
 
 use tpm::{Arguments, ReturnCode, TpmSession};
 
-// The session of a word: any number except 0 is open.
+// The session of a word: any number except 0 is open. No From: both types would be of other crates.
+#[tactic(auto, unfolding(crate::specs::Exports::tpm_session_of))]
 fn session_of(word: u64) -> TpmSession
     ensures { result ≡ tpm_session_of word }
 {
     if word == 0 {
-        return TpmSession::None;
+        TpmSession::None
+    } else {
+        TpmSession::Open
     }
-    TpmSession::Open
 }
 
 // The word of a session: 0 none, 1 open.
+#[tactic(auto, unfolding(crate::specs::Exports::tpm_session_word))]
 fn session_word(session: TpmSession) -> u64
     ensures { result ≡ tpm_session_word session }
 {
@@ -29,23 +32,23 @@ fn session_word(session: TpmSession) -> u64
 }
 
 // The session's word after a call: the new one if the call is accepted, otherwise unchanged.
+#[tactic(auto, unfolding(tpm::specs::ReturnCodes::is_success))]
 fn word_after(code: ReturnCode, session: TpmSession, word: u64) -> u64
     ensures { result ≡ cond (is_success code) (tpm_session_word session) word }
 {
-    if tpm::is_success(code) {
-        return session_word(session);
+    if code == ReturnCode::Success {
+        session_word(session)
+    } else {
+        word
     }
-    word
 }
 
 // A flag of the platform: any number except 0 is true.
+#[tactic(auto, unfolding(crate::specs::Exports::says))]
 fn says(flag: u64) -> bool
     ensures { result ≡ Exports·says flag }
 {
-    if flag == 0 {
-        return false;
-    }
-    true
+    flag != 0
 }
 
 // H_TPM_COMM. Returns r3, and writes r4 and the session's word.
@@ -86,7 +89,7 @@ pub extern "C" fn pbeam_tpm_comm(
     let next = returned.session;
     *session = word_after(code, next, word);
     *r4 = returned.r4;
-    tpm::hcall_number(code)
+    i64::from(code)
 }
 
 // Sets `place` to offset and length of the request in the memory; both 0 if there is no request.

@@ -8,19 +8,15 @@ ghost use Rattle.std.specs.Prelude.{◌≤◌, length, ◌≡◌};
 
 use vector_io::STDOUT;
 
-fn wide(x: u32) -> u64 {
-    x as u64
-}
-
 fn number_at(call: &[u8], at: usize) -> u32 {
     (words::word_at(call, at) % 0x1_0000_0000) as u32
 }
 
 fn print_numbers(what: &[u8], numbers: &[u32]) {
     io::write_all(STDOUT, what);
-    for i in 0..numbers.len() {
+    for number in numbers {
         io::write_all(STDOUT, b" ");
-        io::print_hex(STDOUT, wide(numbers[i]), 8);
+        io::print_hex(STDOUT, u64::from(*number), 8);
     }
 }
 
@@ -104,16 +100,8 @@ fn print_case(input: &[u8]) {
     let mut image = [0u32; 3];
     let mut parts = [0u32; 4];
     let mut len: usize = 0;
-    for i in 0..input.len() / 256 {
-        let at = 256 * i;
-        let end = at + 256;
-        print_call(
-            &input[at..end],
-            &mut buffer,
-            &mut image,
-            &mut parts,
-            &mut len,
-        );
+    for call in input.chunks_exact(256) {
+        print_call(call, &mut buffer, &mut image, &mut parts, &mut len);
     }
 }
 

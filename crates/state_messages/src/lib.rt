@@ -26,6 +26,7 @@ pub struct ResponseHeader {
 }
 
 // An accepted response: state_flags, totlength, and its data as the bytes [at, at + len) of the message.
+// `at` and `len` stay numbers: `pbeam_swtpm_read_response` gives both to C.
 #[derive(Clone, Copy, PartialEq, Eq)]
 pub struct Piece {
     pub flags: u32,

@@ -1,7 +1,6 @@
 -- What the result of a chain of checks implies. Assumes nothing.
 use mathlib.Core.Path.{◌≡◌, refl, sym, ap, ◌∙◌}
-use mathlib.Core.Bool.{Bool, true, false, cond, not, false≢true}
-use borrow.Author.Tests.{not-true, not-false}
+use mathlib.Core.Bool.{Bool, true, false, cond, false≢true}
 use Rattle.tpm.specs.declared.ReturnCode.{ReturnCode}
 use Rattle.tpm.specs.declared.ReturnCode.TheVariants.{Success, Function, Parameter, P2, P3, P4, P5, Resource}
 use Rattle.tpm.specs.ReturnCodes.{is_success, returns_if}
@@ -65,9 +64,10 @@ pub on-goes : (f : ReturnCode → ReturnCode) → Continues f → is_success (f 
 unfolding on_success
 on-goes f p n rest = p rest ∙ rw n
 
--- as in the code: b is whether k is a success
-pub passed : (k j : ReturnCode) (b : Bool) → k ≡ j → b ≡ is_success k → not b ≡ false → is_success j ≡ true
-passed k j b e t h = ap is_success (sym e) ∙ sym t ∙ not-false b h
+-- as in the code: the checks give the code j, which is k
+pub passed : {k : ReturnCode} → Success ≡ k → is_success k ≡ true
+unfolding is_success
+passed e = ap is_success (sym e)
 
-pub stopped : (k j : ReturnCode) (b : Bool) → k ≡ j → b ≡ is_success k → not b ≡ true → is_success j ≡ false
-stopped k j b e t h = ap is_success (sym e) ∙ sym t ∙ not-true b h
+pub stopped : {j k : ReturnCode} → j ≡ k → is_success j ≡ false → is_success k ≡ false
+stopped e h = ap is_success (sym e) ∙ h

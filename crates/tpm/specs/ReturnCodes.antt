@@ -1,6 +1,6 @@
 -- The return codes of H_TPM_COMM, whose document has "r3 : H_Success .. H_FUNCTION". Request E9: "Answers are by name." (TP3) Assumes
 -- nothing.
-use Rattle.std.specs.Prelude.{Bool, true, false, ℤ, pos, negsuc}
+use Rattle.std.specs.Prelude.{Bool, true, false, ℤ, pos, negsuc, Result, Ok, Err}
 use Rattle.tpm.specs.declared.ReturnCode.{ReturnCode}
 use Rattle.tpm.specs.declared.ReturnCode.TheVariants.{Success, Function, Parameter, P2, P3, P4, P5, Resource}
 
@@ -30,3 +30,8 @@ is_success P5 = false
 unfoldable pub returns_if : Bool → ReturnCode → ReturnCode → ReturnCode
 returns_if true k rest = k
 returns_if false k rest = rest
+
+-- the code of some checks: H_SUCCESS if none refuses
+abbrev pub code_of : Result (Unit {0}) ReturnCode → ReturnCode
+code_of (Ok u) = Success
+code_of (Err k) = k

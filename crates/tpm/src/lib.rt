@@ -2,10 +2,10 @@
 // lent from guest address 0 on, so a guest physical address is an offset into it.
 #![tactic(auto)]
 
-ghost use Rattle.std.specs.Prelude.{◌≡◌, length};
+ghost use Rattle.std.specs.Prelude.{◌≡◌, length, false, IfErr};
 ghost use Rattle.words.specs.Word.{on_from};
 ghost use Rattle.tpm.specs.declared.TpmSession.TheVariants.{None};
-ghost use Rattle.tpm.specs.ReturnCodes.{hcall_number, is_success};
+ghost use Rattle.tpm.specs.ReturnCodes.{hcall_number, is_success, code_of};
 ghost use Rattle.tpm.specs.Comm.{buffer_checks, buffers_checks, request_code, step_left, comm_of, tpm_request, tpm_request_span};
 
 use words::Span;
@@ -16,7 +16,7 @@ const IN_SIZE_MOST: u64 = 4096;
 const OUT_SIZE_LEAST: u64 = 4096;
 
 // The return codes of H_TPM_COMM, without their H_ (TP3).
-#[derive(Clone, Copy)]
+#[derive(Clone, Copy, PartialEq, Eq)]
 pub enum ReturnCode {
     Success,
     Function,
@@ -28,8 +28,8 @@ pub enum ReturnCode {
     Resource,
 }
 
-// Whether the guest has a TPM session.
-#[derive(Clone, Copy)]
+// Whether the guest has a TPM session. No bool: `comm` takes two of these already, and a session is no plainer as a third.
+#[derive(Clone, Copy, PartialEq, Eq)]
 pub enum TpmSession {
     None,
     Open,
@@ -64,39 +64,26 @@ pub struct Arguments {
 }
 
 // The number of a return code, as in r3.
-pub fn hcall_number(code: ReturnCode) -> i64
-    ensures { result ≡ hcall_number code }
-{
-    match code {
-        ReturnCode::Success => 0,
-        ReturnCode::Function => -2,
-        ReturnCode::Parameter => -4,
-        ReturnCode::Resource => -16,
-        ReturnCode::P2 => -55,
-        ReturnCode::P3 => -56,
-        ReturnCode::P4 => -57,
-        ReturnCode::P5 => -58,
-    }
-}
+impl From<ReturnCode> for i64 {
+    ghost from_gives = { λ code n. n ≡ hcall_number code };
 
-// Whether the code is H_SUCCESS.
-pub fn is_success(code: ReturnCode) -> bool
-    ensures { result ≡ is_success code }
-{
-    match code {
-        ReturnCode::Success => true,
-        ReturnCode::Function => false,
-        ReturnCode::Parameter => false,
-        ReturnCode::Resource => false,
-        ReturnCode::P2 => false,
-        ReturnCode::P3 => false,
-        ReturnCode::P4 => false,
-        ReturnCode::P5 => false,
+    fn from(code: ReturnCode) -> i64 {
+        match code {
+            ReturnCode::Success => 0,
+            ReturnCode::Function => -2,
+            ReturnCode::Parameter => -4,
+            ReturnCode::Resource => -16,
+            ReturnCode::P2 => -55,
+            ReturnCode::P3 => -56,
+            ReturnCode::P4 => -57,
+            ReturnCode::P5 => -58,
+        }
     }
 }
 
 // Checks one buffer in a memory of `len` bytes: its start, then its size (`unfit` if the caller rejects it by itself), then its end.
 // Subtracts, because the sum could overflow.
+#[tactic(auto, unfolding(crate::specs::Comm::buffer_checks, crate::specs::ReturnCodes::returns_if, words::specs::Tests::either))]
 fn buffer_check(
     outside: ReturnCode,
     badsize: ReturnCode,
@@ -104,24 +91,29 @@ fn buffer_check(
     start: u64,
     size: u64,
     len: u64,
-) -> ReturnCode
-    ensures { result ≡ buffer_checks outside badsize unfit start size len ReturnCode.Success }
+) -> Result<(), ReturnCode>
+    requires outside { is_success outside ≡ false }
+    requires badsize { is_success badsize ≡ false }
+    ensures code { code_of result ≡ buffer_checks outside badsize unfit start size len ReturnCode.Success }
+    ensures err { IfErr result (λ code. is_success code ≡ false) }
 {
     if len <= start {
-        return outside;
+        return Err(outside);
     }
     if unfit {
-        return badsize;
+        return Err(badsize);
     }
     if len - start < size {
-        return badsize;
+        return Err(badsize);
     }
-    ReturnCode::Success
+    Ok(())
 }
 
 // Checks the request's buffer, then the output's.
-fn buffers_check(asked: Arguments, n: u64) -> ReturnCode
-    ensures { result ≡ buffers_checks asked n ReturnCode.Success }
+#[tactic(auto, unfolding(crate::specs::ReturnCodes::is_success))]
+fn buffers_check(asked: Arguments, n: u64) -> Result<(), ReturnCode>
+    ensures code { code_of result ≡ buffers_checks asked n ReturnCode.Success }
+    ensures err { IfErr result (λ code. is_success code ≡ false) }
 {
     let inbuffer = asked.inbuffer;
     let insize = asked.insize;
@@ -129,35 +121,27 @@ fn buffers_check(asked: Arguments, n: u64) -> ReturnCode
     let outsize = asked.outsize;
     let large = IN_SIZE_MOST < insize;
     let small = outsize < OUT_SIZE_LEAST;
-    let input = buffer_check(ReturnCode::P2, ReturnCode::P3, large, inbuffer, insize, n);
-    if !is_success(input) {
-        return input;
-    }
+    buffer_check(ReturnCode::P2, ReturnCode::P3, large, inbuffer, insize, n)?;
     buffer_check(ReturnCode::P4, ReturnCode::P5, small, outbuffer, outsize, n)
 }
 
 // All checks before H_RESOURCE.
-fn request_check(asked: Arguments, len: u64, forbidden: bool) -> ReturnCode
-    ensures { result ≡ request_code asked len forbidden }
+#[tactic(auto, unfolding(crate::specs::ReturnCodes::is_success, crate::specs::ReturnCodes::returns_if, crate::specs::Comm::request_code, crate::specs::Comm::call_checks, crate::specs::Comm::is_execute, crate::specs::Comm::is_close, words::specs::Tests::either))]
+fn request_check(asked: Arguments, len: u64, forbidden: bool) -> Result<(), ReturnCode>
+    ensures code { code_of result ≡ request_code asked len forbidden }
+    ensures err { IfErr result (λ code. is_success code ≡ false) }
 {
     if forbidden {
-        return ReturnCode::Function;
+        return Err(ReturnCode::Function);
     }
     let operation = asked.operation;
     if operation == 2 {
-        return ReturnCode::Success;
+        return Ok(());
     }
     if operation != 1 {
-        return ReturnCode::Parameter;
+        return Err(ReturnCode::Parameter);
     }
     buffers_check(asked, len)
-}
-
-// Bundles what a call returns.
-fn outcome(code: ReturnCode, r4: u64, session: TpmSession) -> CommResult
-    ensures { (result.code ≡ code) × (result.r4 ≡ r4) × (result.session ≡ session) }
-{
-    CommResult { code, r4, session }
 }
 
 // H_TPM_COMM. Execute writes the platform's response at `outbuffer` and opens a session unless one is open; r4 is the length of the
@@ -172,25 +156,44 @@ pub fn comm(
 ) -> CommResult
     ensures { step_left result memory.new ≡ comm_of session asked memory.old response.now forbidden fault }
 {
-    let code = request_check(asked, memory.len() as u64, forbidden);
-    if !is_success(code) {
-        return outcome(code, 0, session);
+    if let Err(code) = request_check(asked, memory.len() as u64, forbidden) {
+        return CommResult {
+            code,
+            r4: 0,
+            session,
+        };
     }
     let operation = asked.operation;
     if operation != 1 {
-        return outcome(ReturnCode::Success, 0, TpmSession::None);
+        return CommResult {
+            code: ReturnCode::Success,
+            r4: 0,
+            session: TpmSession::None,
+        };
     }
     if fault {
-        return outcome(ReturnCode::Resource, 0, session);
+        return CommResult {
+            code: ReturnCode::Resource,
+            r4: 0,
+            session,
+        };
     }
     let outsize = asked.outsize;
     let written = response.len() as u64;
     if outsize < written {
-        return outcome(ReturnCode::Resource, 0, session);
+        return CommResult {
+            code: ReturnCode::Resource,
+            r4: 0,
+            session,
+        };
     }
     let at = asked.outbuffer as usize;
     words::copy(&mut memory[at..], response);
-    outcome(ReturnCode::Success, written, TpmSession::Open)
+    CommResult {
+        code: ReturnCode::Success,
+        r4: written,
+        session: TpmSession::Open,
+    }
 }
 
 // The offset and length of an execute's request in the memory; both 0 for close, or if a check before H_RESOURCE refuses.
@@ -201,11 +204,10 @@ pub fn request_place(asked: Arguments, memory: &[u8], forbidden: bool) -> Span
     if operation != 1 {
         return Span { at: 0, len: 0 };
     }
-    let code = request_check(asked, memory.len() as u64, forbidden);
-    if !is_success(code) {
-        return Span { at: 0, len: 0 };
+    match request_check(asked, memory.len() as u64, forbidden) {
+        Ok(()) => words::span_at(asked.inbuffer as usize, asked.insize as usize),
+        Err(_) => Span { at: 0, len: 0 },
     }
-    words::span_at(asked.inbuffer as usize, asked.insize as usize)
 }
 
 // The request of an execute, as a slice of the memory; empty for close, or if a check before H_RESOURCE refuses.

@@ -12,9 +12,9 @@ use vector_io::STDOUT;
 // Fills `s` with the bytes of a seed: x becomes (171 * x + 11213) mod 65521, and a byte is the low eight bits of x.
 fn fill(s: &mut [u8], seed: u64) {
     let mut x = seed % 65521;
-    for i in 0..s.len() {
+    for byte in s {
         x = (x * 171 + 11213) % 65521;
-        s[i] = (x % 256) as u8;
+        *byte = (x % 256) as u8;
     }
 }
 
@@ -29,8 +29,8 @@ fn times_prime(x: u64) -> u64 {
 // The 64-bit FNV-1a hash.
 fn digest(s: &[u8]) -> u64 {
     let mut x: u64 = 0xCBF2_9CE4_8422_2325;
-    for i in 0..s.len() {
-        x = times_prime(x ^ words::widen(s[i]));
+    for byte in s {
+        x = times_prime(x ^ words::widen(*byte));
     }
     x
 }
@@ -38,20 +38,6 @@ fn digest(s: &[u8]) -> u64 {
 fn print_word(what: &[u8], x: u64) {
     io::write_all(STDOUT, what);
     io::print_hex(STDOUT, x, 1);
-}
-
-// The absolute value of r3.
-fn magnitude(r3: i64) -> u64 {
-    match r3 {
-        -2 => 2,
-        -4 => 4,
-        -16 => 16,
-        -55 => 55,
-        -56 => 56,
-        -57 => 57,
-        -58 => 58,
-        _ => 0,
-    }
 }
 
 fn session_number(session: TpmSession) -> u64 {
@@ -65,7 +51,7 @@ fn print_returned(returned: CommResult) {
     let code = returned.code;
     let session = returned.session;
     io::write_all(STDOUT, b" r3 -");
-    io::print_decimal(STDOUT, magnitude(tpm::hcall_number(code)));
+    io::print_decimal(STDOUT, i64::from(code).unsigned_abs());
     print_word(b" r4 ", returned.r4);
     print_word(b" session ", session_number(session));
 }

@@ -1,11 +1,3 @@
--- src/lib.rt:77:9
--- src/lib.rt:81:9
--- src/lib.rt:82:9
--- src/lib.rt:76:9
--- src/lib.rt:86:16
--- src/lib.rt:88:5
--- src/lib.rt:51:1
--- src/lib.rt:51:1
 use mir.Val.{to_z, of_z}
 use mir.Syntax.{w64}
 use mathlib.Core.Path.{◌≡◌, ◌∙◌}
@@ -17,8 +9,8 @@ pub returns : goal.returns
 returns c =
     let a = c.args in
     let r = c.comm-returned in
-    let q : to_z w64 (of_z w64 c.hcall_number.result) ≡ c.hcall_number.result = search rules in
+    let q : to_z w64 (of_z w64 c.from.result) ≡ c.from.result = search rules in
     left_is _ r.result a.session.now _ a.memory.now _ a.response.now _ a.forbidden a.fault
-    (q ∙ c.hcall_number.ensures) c.word_after.ensures _ _ _ c.session_of.ensures
+    (q ∙ c.from.ensures) c.word_after.ensures _ _ _ c.session_of.ensures
     c.says.ensures c.says-2.ensures
     r.ensures

@@ -1,6 +1,3 @@
--- src/lib.rt:112:50
--- src/lib.rt:112:9
--- src/lib.rt:92:1
 use mathlib.Core.Path.{ap, ◌∙◌}
 use Rattle.potterbeam_tpm.specs.Exports.{place_words}
 use Rattle.potterbeam_tpm.proofs.pbeam_tpm_request.Goals as goal

@@ -1,15 +1,17 @@
-use mathlib.Core.Path.{sym, ◌∙◌}
+use mathlib.Core.Path.{refl}
+use Rattle.tpm.specs.ReturnCodes.{is_success}
 use Rattle.tpm.proofs.Checks.{input-stops, input-goes}
+use borrow.Author.Rules.{rules}
 use Rattle.tpm.proofs.buffers_check.Goals as goal
 
-pub returns-then-not-is_success : goal.returns-then-not-is_success
-returns-then-not-is_success c =
+pub returns-in_err-buffer_check-clause-code : goal.returns-in_err-buffer_check-clause-code
+returns-in_err-buffer_check-clause-code c =
     let a = c.args in
-    input-stops a.asked a.n _ c.buffer_check-input.ensures
-    (sym c.is_success.ensures ∙ c.if-not-is_success.true)
+    let e = c.in_err-buffer_check.ensures in
+    rw (← input-stops a.asked a.n _ e.code e.err) (search rules)
 
-pub returns : goal.returns
-returns c =
+pub returns-clause-code : goal.returns-clause-code
+unfolding is_success
+returns-clause-code c =
     let a = c.args in
-    input-goes a.asked a.n _ _ c.buffer_check-input.ensures
-    (sym c.is_success.ensures ∙ c.if-not-is_success.false) c.buffer_check.ensures
+    input-goes a.asked a.n _ _ c.in_ok-buffer_check.ensures.code refl c.buffer_check-2.ensures.code

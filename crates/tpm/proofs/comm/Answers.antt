@@ -13,28 +13,25 @@ use Rattle.tpm.proofs.Steps.{comm-stops, comm-closes, comm-faults, comm-leaves}
 use borrow.Author.Rules.{rules}
 use Rattle.tpm.proofs.comm.Goals as goal
 
-pub returns-then-not-is_success : goal.returns-then-not-is_success
+pub returns-in-Err : goal.returns-in-Err
 unfolding refused_step
-returns-then-not-is_success c =
-    let k = c.request_check-code.ensures in
-    let h = stopped _ _ _ k c.is_success.ensures c.if-not-is_success.true-raw in
-    rw (c.outcome.ensures.0, c.outcome.ensures.1, c.outcome.ensures.2, k) (sym (comm-stops _ _ _ _ _ _ h))
+returns-in-Err c =
+    let k = c.in-Err.ensures in
+    rw k.code (sym (comm-stops _ _ _ _ _ _ (stopped k.code k.err)))
 
 pub returns-then-operation-ne1 : goal.returns-then-operation-ne1
 unfolding closed_step
 returns-then-operation-ne1 c =
-    let h = passed _ _ _ c.request_check-code.ensures c.is_success.ensures
-    c.if-not-is_success.false-raw in
-    rw (c.outcome-then-operation-ne1.ensures.0, c.outcome-then-operation-ne1.ensures.1, c.outcome-then-operation-ne1.ensures.2) (sym (comm-closes _ _ _ _ _ _ h (search rules)))
+    let h = passed c.in_default.ensures.code in
+    sym (comm-closes _ _ _ _ _ _ h (search rules))
 
 pub returns-then-fault : goal.returns-then-fault
 unfolding refused_step either
 returns-then-fault c =
     let a = c.args in
     let f : a.fault ≡ true = search rules in
-    let h = passed _ _ _ c.request_check-code.ensures
-    c.is_success.ensures c.if-not-is_success.false-raw in
-    rw (c.outcome-then-fault.ensures.0, c.outcome-then-fault.ensures.1, c.outcome-then-fault.ensures.2) (sym (comm-faults _ _ _ _ _ _ h (search rules) (simp f)))
+    let h = passed c.in_default.ensures.code in
+    sym (comm-faults _ _ _ _ _ _ h (search rules) (simp f))
 
 pub returns-then-outsize-written : goal.returns-then-outsize-written
 unfolding refused_step either
@@ -42,22 +39,18 @@ returns-then-outsize-written c =
     let a = c.args in
     let f : a.fault ≡ false = search rules in
     let l : a.asked.outsize < length a.response.now = search rules in
-    let h = passed _ _ _ c.request_check-code.ensures
-    c.is_success.ensures c.if-not-is_success.false-raw in
-    rw (c.outcome-then-outsize-written.ensures.0, c.outcome-then-outsize-written.ensures.1, c.outcome-then-outsize-written.ensures.2)
-    (sym (comm-faults _ _ _ _ _ _ h (search rules) (simp (f, lt-ltb a.asked.outsize (length a.response.now) l))))
+    let h = passed c.in_default.ensures.code in
+    sym (comm-faults _ _ _ _ _ _ h (search rules) (simp (f, lt-ltb a.asked.outsize (length a.response.now) l)))
 
 pub slice_bounds-copy-count : goal.slice_bounds-copy-count
 slice_bounds-copy-count c =
-    let h = passed _ _ _ c.request_check-code.ensures
-    c.is_success.ensures c.if-not-is_success.false-raw in
+    let h = passed c.in_default.ensures.code in
     let p = request-placed _ _ _ h (search rules) in
     omega (arith, p.input.begins, p.output.begins)
 
 pub slice_bounds-copy-start : goal.slice_bounds-copy-start
 slice_bounds-copy-start c =
-    let h = passed _ _ _ c.request_check-code.ensures
-    c.is_success.ensures c.if-not-is_success.false-raw in
+    let h = passed c.in_default.ensures.code in
     let p = request-placed _ _ _ h (search rules) in
     omega (arith, p.input.begins, p.output.begins)
 
@@ -66,10 +59,10 @@ returns c =
     let a = c.args in
     let e : a.asked.operation ≡ 1 = search rules in
     let r : length a.response.now ≤ a.asked.outsize = search rules in
-    let h = passed _ _ _ c.request_check-code.ensures c.is_success.ensures c.if-not-is_success.false-raw in
+    let h = passed c.in_default.ensures.code in
     let p = request-placed _ _ _ h e in
     let m : a.asked.outbuffer + length a.response.now ≤ length a.memory.now = omega (arith, p.output.ends) in
     let w = lent_back a.asked.outbuffer a.response.now a.memory.now m ∙
     bytes-in a.asked.outbuffer a.response.now a.memory.now m in
-    rw (c.outcome-2.ensures.0, c.outcome-2.ensures.1, c.outcome-2.ensures.2, c.copy.ensures)
+    rw c.copy.ensures
     (comm-leaves _ _ _ _ _ _ _ w h e (search rules) r)

@@ -12,22 +12,14 @@ returns-then-operation-ne1 c =
     let a = c.args in
     simp (ne_eqb a.asked.operation 1 (search rules))
 
-pub returns-then-not-is_success : goal.returns-then-not-is_success
-unfolding tpm_request_span has_request both is_execute no_span
-returns-then-not-is_success c =
-    let a = c.args in
-    rw (
-      eq-eqb a.asked.operation 1 (search rules),
-      stopped _ _ _ c.request_check-code.ensures
-          c.is_success.ensures c.if-not-is_success.true-raw,
-    )
-
-pub returns : goal.returns
+pub returns-in-Ok : goal.returns-in-Ok
 unfolding tpm_request_span has_request both is_execute
-returns c =
+returns-in-Ok c =
     let a = c.args in
-    rw (
-      c.span_at.ensures,
-      eq-eqb a.asked.operation 1 (search rules),
-      passed _ _ _ c.request_check-code.ensures c.is_success.ensures c.if-not-is_success.false-raw,
-    )
+    rw (c.span_at.ensures, eq-eqb a.asked.operation 1 (search rules), passed c.in-Ok.ensures.code)
+
+pub returns-in-Err : goal.returns-in-Err
+unfolding tpm_request_span has_request both is_execute no_span
+returns-in-Err c =
+    let a = c.args in
+    rw (eq-eqb a.asked.operation 1 (search rules), stopped c.in-Err.ensures.code c.in-Err.ensures.err)
