@@ -27,7 +27,7 @@ pub struct Answer {
     pub x2: u64,
 }
 
-// What the platform must do after the answer.
+// What the platform must do after the answer. No `Option<u64>`, which is no plainer: the number is the mecid to reprogram.
 #[derive(Clone, Copy)]
 pub enum Work {
     Nothing,
@@ -92,7 +92,7 @@ pub fn is_ok(code: Code) -> bool
     code == Code::Ok
 }
 
-// Returns `code` if the test holds, otherwise OK.
+// Returns `code` if the test holds, otherwise OK: the `first` of `buffer_check::page_gate`.
 pub fn code_if(test: bool, code: Code) -> Code
     ensures value { result ≡ fails test code Code.Ok }
     ensures result_value { number_of result ≡ cond test (number_of code) (pos 0) }

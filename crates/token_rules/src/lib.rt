@@ -5,7 +5,8 @@ ghost use Rattle.std.specs.Prelude.{◌≡◌};
 
 use codes::Answer;
 
-// A token session: none, or a token of `whole` bytes of which `sent` are sent.
+// A token session: none, or a token of `whole` bytes of which `sent` are sent. No `Option`, which is no plainer: `Idle` is a state that
+// rules and theorems name, as `Sending`.
 #[derive(Clone, Copy)]
 pub enum Session {
     Idle,

@@ -1,4 +1,4 @@
-use mathlib.Core.Path.{◌≡◌, refl, sym, ap}
+use mathlib.Core.Path.{◌≡◌, refl}
 use mathlib.Core.Bool.{false}
 use Rattle.boot.specs.declared.Params.{Params}
 use Rattle.boot.specs.declared.Record.{Record}
@@ -14,7 +14,7 @@ not_up Closed h = refl
 
 pub returns-in-Up : goal.returns-in-Up
 unfolding is_up
-returns-in-Up c = sym (ap is_up c.in-Up.is)
+returns-in-Up c = cc
 
 pub returns-in_default : goal.returns-in_default
 returns-in_default c = not_up c.args.state c.in_default.not-Up
