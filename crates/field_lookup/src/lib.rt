@@ -7,7 +7,7 @@ ghost use Rattle.fields.specs.Steps.{step_at};
 ghost use Rattle.reader.specs.Answer.{fields_shown};
 ghost use Rattle.reader.specs.Reading.{reading_answer};
 ghost use Rattle.field_lookup.specs.Fields.{first_in, rest_in, nth_in, of_tag, value_in, field_as, place_span};
-ghost use Rattle.field_lookup.specs.Steps.{search_ends, shown_from, start_at, nth_place, tag_place, place_tag};
+ghost use Rattle.field_lookup.specs.Steps.{shown_from, start_at, nth_place, tag_place, place_tag};
 
 use fields::{FieldPlace, FieldStep};
 use reader::View;
@@ -105,7 +105,8 @@ fn span_of(field: Option<FieldPlace>) -> Span
     }
 }
 
-// The value of a field, as a part of the page itself; empty if no value is shown.
+// The value of a field, as a part of the page itself; empty if no value is shown. Takes the Option of a lookup, since it promises an answer
+// for `None` too.
 pub fn value_of(page: &[u8], field: Option<FieldPlace>) -> &[u8]
     ensures result_value { result.now ≡ value_in (field_as field page.now) }
     ensures ref_ptr_value { result.ref_ptr ≡ on_from page.entry.ref_ptr (span_start (place_span field) page.now) }

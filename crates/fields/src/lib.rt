@@ -48,7 +48,8 @@ pub enum FieldPlace {
     Withdrawn,
 }
 
-// One step of a walk over the fields: the field at an offset, if there is one, and the offset after it.
+// One step of a walk over the fields: the field at an offset, if there is one, and the offset after it. No Option of the whole: `step_at`
+// promises `next` also where there is no field, and `pbeam_field_next` returns it.
 #[derive(Clone, Copy)]
 pub struct FieldStep {
     pub field: Option<FieldPlace>,
