@@ -8,7 +8,7 @@ ghost use Rattle.field_lookup.specs.Steps.{shown_from};
 ghost use Rattle.words.specs.Word.{joined};
 ghost use Rattle.text_lines.specs.Text.{word_text, entry_text, count_text, state_text, title_text, section_text, head_text, pointer_text, plat_text, fields_text, listing_of, printed};
 ghost use Rattle.text_lines.specs.Laid.{Listed};
-ghost use Rattle.text_lines.specs.Steps.{seen, LaidOver};
+ghost use Rattle.text_lines.specs.Steps.{seen, refusal_line, LaidOver};
 
 use reader::{Refusal, Section, View};
 
@@ -210,15 +210,26 @@ fn put_code(out: &mut [u8], code: Refusal) -> usize
     }
 }
 
+// Writes the line of a reading that refuses; nothing for an accepted one.
+fn put_refused(out: &mut [u8], reading: Result<View, Refusal>) -> usize
+    ensures { LaidOver 0 (refusal_line reading) out.old result out.new }
+{
+    match reading {
+        Ok(_) => 0,
+        Err(code) => put_code(out, code),
+    }
+}
+
 // Writes the listing of a page at `base`, read as `edition`, to the start of `out`, as far as it fits; the rest of `out` is unchanged. Returns the
 // length of the whole text, which exceeds `out.len()` if it does not fit.
 pub fn list(page: &[u8], base: u64, edition: u64, out: &mut [u8]) -> usize
     ensures { Listed (listing_of (read_of edition base page.now)) out.old result out.new }
 {
-    match reader::read(page, base, edition) {
-        Ok(view) => put_view(out, page, view),
-        Err(code) => put_code(out, code),
-    }
+    let reading = reader::read(page, base, edition);
+    let Ok(view) = reading else {
+        return put_refused(out, reading);
+    };
+    put_view(out, page, view)
 }
 
 // Writes the listing of the program's input: 8 bytes of B, then the page, read as edition 4. Returns the length of the whole text.

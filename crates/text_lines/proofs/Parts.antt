@@ -32,7 +32,7 @@ use Rattle.fields.specs.declared.FieldStep.{FieldStep}
 use Rattle.field_lookup.proofs.Fields.{place_shown, step-some, step-first}
 use Rattle.text_lines.specs.Text.{newline, space, none_text, absent_text, title_text, hex_text, name_text, word_text, gap_text, count_text}
 use Rattle.text_lines.specs.Text.{state_text, section_text, head_text, plat_text, pointer_text, field_text, fields_text, listing_of, printed}
-use Rattle.text_lines.specs.Steps.{seen, place_text}
+use Rattle.text_lines.specs.Steps.{seen, place_text, refusal_line}
 
 -- ---- the space before a word
 pub gap-none : (j : ℕ) → j ≡ 0 → [] ≡ gap_text j
@@ -128,8 +128,8 @@ unfolding reading_answer fields_shown listing_of seen
 seen-listed v page = refl
 
 pub list-refused : (e base : ℕ) (page : List ℕ) (r : Result View Refusal) (c : Refusal) → r ≡ Err c → r ≡ reading_of e base page →
-    listing_of (refused (refusal_number c)) ≡ listing_of (read_of e base page)
-unfolding reading_answer
+    refusal_line r ≡ listing_of (read_of e base page)
+unfolding refusal_line reading_answer
 list-refused e base page r c h f = rw (← reading-answer e base page, ← f, h)
 
 pub list-accepted : (e base : ℕ) (page : List ℕ) (r : Result View Refusal) (v : View) → r ≡ Ok v → r ≡ reading_of e base page →
