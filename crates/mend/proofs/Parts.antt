@@ -16,14 +16,13 @@ use Rattle.words.proofs.Read.{le_bytes-length}
 use Rattle.words.proofs.Lists.{bytes_of-length}
 use Rattle.versions.specs.Version.{version_ok}
 use Rattle.versions.specs.Edition.{section_count}
-use Rattle.fields.specs.Fields.{taken}
 use Rattle.fields.proofs.Withdrawn.{both-no}
 use Rattle.sections.specs.Page.{place_ok, version_at, padding_at, PagePlatform, page_platform, platform_at}
 use Rattle.sections.specs.Section.{platform_ok, plat_extent}
 use Rattle.sections.specs.Steps.{plat_end, stays_at}
 use Rattle.sections.proofs.Sections.{placed, plat-broken, plat-ended}
 use Rattle.reader.specs.declared.Refusal.TheVariants.{Place, Version}
-use Rattle.mend.specs.Mend.{Mended, no_platform, plat_left, minor_at, edition_at, changed, part_at, mend_changes, mend_gate, mended_of, mend_answer}
+use Rattle.mend.specs.Mend.{Mended, minor_at, edition_at, changed, part_at, mend_changes, mend_gate, mended_of, mend_answer}
 use Rattle.mend.specs.Mend.{mend_numbers, mend_of, mended_page}
 use Rattle.mend.specs.Steps.{page_to, zeroed, fields_at, plat_kept, fields_left, section_goes}
 use Rattle.mend.specs.declared.Changes.{Changes}
