@@ -713,7 +713,7 @@ pub extern "C" fn pbeam_call(
     let x3 = call[3];
     let x4 = call[4];
     *work = [0, 0];
-    let kind = runtime::kind_of(call[0]);
+    let kind = Kind::from(call[0]);
     match kind {
         Kind::ForwardError => {
             *out = [0, 0, 0];

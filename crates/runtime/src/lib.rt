@@ -41,19 +41,21 @@ pub struct StepResult {
 }
 
 // The command of a function id. Compares all 64 bits of `id`.
-pub fn kind_of(id: u64) -> Kind
-    ensures { result ≡ kind_of id }
-{
-    match id {
-        0xC400_018F => Kind::ForwardError,
-        0xC400_01B0 => Kind::Delegate,
-        0xC400_01B1 => Kind::Undelegate,
-        0xC400_01B2 => Kind::RealmKey,
-        0xC400_01B3 => Kind::PlatformToken,
-        0xC400_01B4 => Kind::Features,
-        0xC400_01B5 => Kind::TokenSigning,
-        0xC400_01B6 => Kind::KeyUpdate,
-        _ => Kind::Unlisted,
+impl From<u64> for Kind {
+    ghost from_gives = { λ id kind. kind ≡ kind_of id };
+
+    fn from(id: u64) -> Kind {
+        match id {
+            0xC400_018F => Kind::ForwardError,
+            0xC400_01B0 => Kind::Delegate,
+            0xC400_01B1 => Kind::Undelegate,
+            0xC400_01B2 => Kind::RealmKey,
+            0xC400_01B3 => Kind::PlatformToken,
+            0xC400_01B4 => Kind::Features,
+            0xC400_01B5 => Kind::TokenSigning,
+            0xC400_01B6 => Kind::KeyUpdate,
+            _ => Kind::Unlisted,
+        }
     }
 }
 
@@ -127,7 +129,7 @@ pub fn call(
         (call_of granules.now (world_of page.old table.old words.old session (lists_of queue))
         (call_with state id x1 x2 x3 x4 busy key.now token.now public.now width)) }
 {
-    let kind = kind_of(id);
+    let kind = Kind::from(id);
     match kind {
         Kind::ForwardError => {
             let error = features::forward(state, x1);

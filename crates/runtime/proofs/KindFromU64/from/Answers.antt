@@ -1,7 +1,7 @@
 use borrow.Author.Tests.{ne_eqb}
 use Rattle.runtime.specs.Step.{kind_of}
 use borrow.Author.Rules.{rules}
-use Rattle.runtime.proofs.kind_of.Goals as goal
+use Rattle.runtime.proofs.KindFromU64.from.Goals as goal
 
 pub returns-in-3288334735 : goal.returns-in-3288334735
 unfolding kind_of
