@@ -50,7 +50,7 @@ pub fn load(rt: &impl Files<File = File>, n: u64, input: &mut [u8]) -> usize
 pub fn length_at(input: &[u8], at: usize, most: usize) -> usize
     ensures { (result ≡ min (word_at at input.now) most) × (result ≤ most) }
 {
-    words::smaller(words::word_at(input, at), most as u64) as usize
+    words::word_at(input, at).min(most as u64) as usize
 }
 
 // The granule record of a case. The word at `at` is its offset; at this offset is the number n of words given, then n words. The others
@@ -102,8 +102,8 @@ pub fn fill_words(input: &[u8], at: usize, list: &mut [u64])
 // Prints a list of words on one line.
 pub fn print_words(list: &[u64]) {
     io::write_all(STDOUT, b"words");
-    for i in 0..list.len() {
-        print_word(list[i]);
+    for word in list {
+        print_word(*word);
     }
     io::write_all(STDOUT, b"\n");
 }
@@ -155,21 +155,19 @@ pub fn print_word(x: u64) {
 }
 
 // The boot record at the start of a case: word 0 is 1 for up (words 1 to 4 are its values), 2 for closed, any other number for fresh.
+#[tactic(auto, unfolding(crate::specs::Cases::record_at))]
 pub fn record_at(input: &[u8]) -> Record
     ensures { result ≡ record_at input.now }
 {
-    let state = words::word_at(input, 0);
     let params = Params {
         cpus: words::word_at(input, 8),
         base: words::word_at(input, 16),
         minor: words::word_at(input, 24),
         kept: words::word_at(input, 32),
     };
-    if state == 1 {
-        return Record::Up(params);
+    match words::word_at(input, 0) {
+        1 => Record::Up(params),
+        2 => Record::Closed,
+        _ => Record::fresh(),
     }
-    if state == 2 {
-        return Record::Closed;
-    }
-    Record::fresh()
 }
