@@ -132,13 +132,15 @@ impl Record {
         if words::PAGE_SIZE < kept {
             return Err(BootRefusal::Manifest(Refusal::Place));
         }
-        reader::judge_page(page, x3, 4)?;
-        Ok(Params {
-            cpus: x2,
-            base: x3,
-            minor: versions::agreed_minor(x1),
-            kept,
-        })
+        let Err(code) = reader::judge_page(page, x3, 4) else {
+            return Ok(Params {
+                cpus: x2,
+                base: x3,
+                minor: versions::agreed_minor(x1),
+                kept,
+            });
+        };
+        Err(BootRefusal::Manifest(code))
     }
 
     // Cold boot with x0 to x3 (BT2, BT3). The monitor supports at most `maxcpus` CPUs, the first `kept` bytes of the page are kept,

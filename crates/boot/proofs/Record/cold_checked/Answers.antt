@@ -1,5 +1,4 @@
 use mathlib.Core.Path.{sym, ◌∙◌}
-use Rattle.std.proofs.lemmas.Result.{err_from_is_err_and}
 use borrow.Author.Rules.{rules}
 use Rattle.reader.proofs.Whole.{fine-reads, refused-reads}
 use Rattle.boot.specs.Boot.{params_of}
@@ -34,19 +33,18 @@ returns-then-kept-gt-PAGE_SIZE c =
     cold-kept a.self a.x0 a.x1 a.x2 a.x3 a.maxcpus a.kept a.page.now c.in-Fresh.is
     (sym c.is_accepted.ensures ∙ c.if-not-is_accepted.false) (search rules) (search rules) (search rules)
 
-pub returns-in_err-judge_page : goal.returns-in_err-judge_page
-returns-in_err-judge_page c =
-    let a = c.args in
-    let p = err_from_is_err_and c.from_residual.result c.from_residual.ensures.1 in
-    rw (p.1, p.2) (cold-refused a.self a.x0 a.x1 a.x2 a.x3 a.maxcpus a.kept a.page.now c.in-Fresh.is
-    (sym c.is_accepted.ensures ∙ c.if-not-is_accepted.false) (search rules) (search rules) (search rules) _
-    (refused-reads 4 a.x3 a.page.now _ c.in_err-judge_page.ensures.value))
-
-pub returns : goal.returns
+pub returns-in_default-judge_page : goal.returns-in_default-judge_page
 unfolding params_of
-returns c =
+returns-in_default-judge_page c =
     let a = c.args in
     let k = cold-up a.self a.x0 a.x1 a.x2 a.x3 a.maxcpus a.kept a.page.now c.in-Fresh.is
     (sym c.is_accepted.ensures ∙ c.if-not-is_accepted.false) (search rules) (search rules) (search rules) _
-    (fine-reads 4 a.x3 a.page.now _ c.in_ok-judge_page.ensures.value).2 in
+    (fine-reads 4 a.x3 a.page.now _ c.in_default-judge_page.ensures.value).2 in
     (k, rw c.agreed_minor.ensures.0)
+
+pub returns : goal.returns
+returns c =
+    let a = c.args in
+    cold-refused a.self a.x0 a.x1 a.x2 a.x3 a.maxcpus a.kept a.page.now c.in-Fresh.is
+    (sym c.is_accepted.ensures ∙ c.if-not-is_accepted.false) (search rules) (search rules) (search rules) _
+    (refused-reads 4 a.x3 a.page.now _ c.in-Err.ensures.value)
