@@ -92,10 +92,8 @@ fn buffer_check(
     size: u64,
     len: u64,
 ) -> Result<(), ReturnCode>
-    requires outside { is_success outside ≡ false }
-    requires badsize { is_success badsize ≡ false }
     ensures code { code_of result ≡ buffer_checks outside badsize unfit start size len ReturnCode.Success }
-    ensures err { IfErr result (λ code. is_success code ≡ false) }
+    ensures err { is_success outside ≡ false → is_success badsize ≡ false → IfErr result (λ code. is_success code ≡ false) }
 {
     if len <= start {
         return Err(outside);

@@ -5,10 +5,11 @@ use borrow.Author.Rules.{rules}
 use Rattle.tpm.proofs.buffers_check.Goals as goal
 
 pub returns-in_err-buffer_check-clause-code : goal.returns-in_err-buffer_check-clause-code
+unfolding is_success
 returns-in_err-buffer_check-clause-code c =
     let a = c.args in
     let e = c.in_err-buffer_check.ensures in
-    rw (← input-stops a.asked a.n _ e.code e.err) (search rules)
+    rw (← input-stops a.asked a.n _ e.code (e.err refl refl)) (search rules)
 
 pub returns-clause-code : goal.returns-clause-code
 unfolding is_success
