@@ -1,32 +1,20 @@
 // Building blocks of the listing's lines. Each function writes text at an offset of a lent slice, as far as it fits, and returns the offset after the
-// text, even if that is past the end of the slice: so the last offset is the length of the whole text. specs/ defines the text; `field_text` and
+// text, even if that is past the end of the slice: so the last offset is the length of the whole text. An offset that would overflow stays at the
+// largest number: no text is that long, but a single step cannot know that. specs/ defines the text; `field_text` and
 // `text` write its lines.
 #![tactic(auto)]
 
-ghost use Rattle.std.specs.Prelude.{◌+◌, min, ◌≡◌};
 ghost use Rattle.text_lines.specs.Text.{newline, decimal, hex_text, byte_text, name_text, gap_text, value_text};
-ghost use Rattle.text_lines.specs.Steps.{last_offset, LaidOver};
-
-// `at + n`, or the largest number if that overflows. No text is that long, but a single step cannot know that.
-fn saturating_add(at: usize, n: usize) -> usize
-    ensures { result ≡ min (at + n) last_offset }
-{
-    if 0xFFFF_FFFF_FFFF_FFFF - at < n {
-        return 0xFFFF_FFFF_FFFF_FFFF;
-    }
-    at + n
-}
+ghost use Rattle.text_lines.specs.Steps.{LaidOver};
 
 // Writes any bytes.
 pub fn put(out: &mut [u8], at: usize, text: &[u8]) -> usize
     ensures { LaidOver at text.now out.old result out.new }
 {
-    let from = words::smaller(at as u64, out.len() as u64) as usize;
-    let n = words::smaller(text.len() as u64, (out.len() - from) as u64) as usize;
-    for i in 0..n {
-        out[at + i] = text[i];
-    }
-    saturating_add(at, text.len())
+    let from = at.min(out.len());
+    let n = text.len().min(out.len() - from);
+    out[from..from + n].copy_from_slice(&text[..n]);
+    at.saturating_add(text.len())
 }
 
 // Writes a number in decimal.
@@ -62,10 +50,8 @@ pub fn put_name(out: &mut [u8], at: usize, w: u64) -> usize
     ensures { LaidOver at (name_text w) out.old result out.new }
 {
     let mut to = at;
-    let mut rest = w;
-    for i in 0..8usize {
-        to = put_byte(out, to, (rest % 256) as u8);
-        rest /= 256;
+    for byte in w.to_le_bytes() {
+        to = put_byte(out, to, byte);
     }
     to
 }
@@ -74,21 +60,20 @@ pub fn put_name(out: &mut [u8], at: usize, w: u64) -> usize
 pub fn put_gap(out: &mut [u8], at: usize, j: usize) -> usize
     ensures { LaidOver at (gap_text j) out.old result out.new }
 {
-    if j == 0 {
-        return at;
+    match j {
+        0 => at,
+        _ => put(out, at, b" "),
     }
-    put(out, at, b" ")
 }
 
 // Writes the bytes of a value, each after a space.
 pub fn put_value(out: &mut [u8], at: usize, value: &[u8]) -> usize
     ensures { LaidOver at (value_text value.now) out.old result out.new }
 {
-    let n = value.len();
     let mut to = at;
-    for i in 0..n {
-        to = put_gap(out, to, 1);
-        to = put_byte(out, to, value[i]);
+    for byte in value {
+        to = put(out, to, b" ");
+        to = put_byte(out, to, *byte);
     }
     to
 }

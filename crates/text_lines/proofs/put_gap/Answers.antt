@@ -4,11 +4,11 @@ use Rattle.text_lines.proofs.Parts.{gap-none, gap_more}
 use borrow.Author.Rules.{rules}
 use Rattle.text_lines.proofs.put_gap.Goals as goal
 
-pub returns-then-j-eq0 : goal.returns-then-j-eq0
-returns-then-j-eq0 c = let a = c.args in wrote-same (gap-none a.j (search rules)) (wrote_none a.at a.out.now (search rules))
+pub returns-in-0 : goal.returns-in-0
+returns-in-0 c = let a = c.args in wrote-same (gap-none a.j (search rules)) (wrote_none a.at a.out.now (search rules))
 
-pub returns : goal.returns
+pub returns-in_default : goal.returns-in_default
 unfolding space
-returns c =
+returns-in_default c =
     let a = c.args in
     wrote-same (gap_more a.j (search rules)) c.put.ensures

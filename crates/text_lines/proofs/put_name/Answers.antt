@@ -1,26 +1,22 @@
-use mathlib.Core.Path.{◌≡◌}
-use Rattle.text_lines.specs.Text.{name_byte, name_text}
+use Rattle.std.proofs.Common.{◌≡◌, ◌∙◌, ap, arith, rules, slice_index_or, List, ℕ}
 use Rattle.words.specs.Word.{joined}
+use Rattle.words.proofs.Read.{bytes-of_8}
+use Rattle.text_lines.specs.Text.{byte_text, name_byte, name_text}
 use Rattle.text_lines.proofs.Lay.{wrote_none, wrote-same, wrote-more}
-use Rattle.text_lines.proofs.Numbers.{name-byte, name-rest, name-all}
-use borrow.Author.Rules.{rules}
-use native.Mathlib.Omega.{arith}
 use Rattle.text_lines.proofs.put_name.Goals as goal
 
-pub loop-i-init : goal.loop-i-init
+pub loop-byte-init : goal.loop-byte-init
 unfolding joined
-loop-i-init c = let a = c.args in (search rules, name-all a.w, wrote_none a.at a.out.now (search rules))
+loop-byte-init c = let a = c.args in wrote_none a.at a.out.now (search rules)
 
-pub loop-i-preserved : goal.loop-i-preserved
-loop-i-preserved c =
+pub loop-byte-preserved : goal.loop-byte-preserved
+unfolding name_byte
+loop-byte-preserved c =
     let a = c.args in
-    let l = c.loop-i in (
-      search rules,
-      name-rest a.w l.i l.rest l.invariant.1,
-      wrote-more (name_byte a.w) l.i (search rules) l.invariant.2
-          (wrote-same (name-byte a.w l.i l.rest (omega arith) l.invariant.1) c.put_byte-to.ensures),
-    )
+    let l = c.loop-byte in
+    let e = ap (λ (bs : List ℕ). byte_text (slice_index_or bs l.byte-index 0)) (c.to_le_bytes-byte-items.ensures ∙ bytes-of_8 a.w) in
+    wrote-more (name_byte a.w) l.byte-index (search rules) l.invariant (wrote-same e c.put_byte-to.ensures)
 
 pub returns : goal.returns
 unfolding name_text
-returns c = let l = c.loop-i in let e : l.i ≡ 8 = omega arith in rw e at l.invariant.2
+returns c = let l = c.loop-byte in let e : l.byte-index ≡ 8 = omega arith in rw e at l.invariant

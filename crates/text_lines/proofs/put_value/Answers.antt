@@ -1,30 +1,20 @@
-use mathlib.Core.Path.{◌≡◌}
-use lib.ListN.{length}
+use Rattle.std.proofs.Common.{◌≡◌, length, arith, rules}
 use Rattle.words.specs.Word.{joined}
-use Rattle.text_lines.specs.Text.{gap_text, value_byte, value_text}
+use Rattle.text_lines.specs.Text.{space, value_byte, value_text}
 use Rattle.text_lines.proofs.Lay.{wrote_none, wrote_then, wrote-more}
-use borrow.Author.Rules.{rules}
-use native.Mathlib.Omega.{arith}
 use Rattle.text_lines.proofs.put_value.Goals as goal
 
-pub loop-i-init : goal.loop-i-init
+pub loop-byte-init : goal.loop-byte-init
 unfolding joined
-loop-i-init c = let a = c.args in (search rules, wrote_none a.at a.out.now (search rules))
+loop-byte-init c = let a = c.args in wrote_none a.at a.out.now (search rules)
 
-pub loop-i-preserved : goal.loop-i-preserved
-unfolding value_byte gap_text
-loop-i-preserved c =
+pub loop-byte-preserved : goal.loop-byte-preserved
+unfolding value_byte space
+loop-byte-preserved c =
     let a = c.args in
-    let l = c.loop-i in (
-      search rules,
-      wrote-more (value_byte a.value.now) l.i (search rules) l.invariant.1
-          (wrote_then (search rules) c.put_gap-to.ensures
-          c.put_byte-to.ensures),
-    )
+    let l = c.loop-byte in
+    wrote-more (value_byte a.value.now) l.byte-index (search rules) l.invariant (wrote_then (search rules) c.put-to.ensures c.put_byte-to.ensures)
 
 pub returns : goal.returns
 unfolding value_text
-returns c =
-    let l = c.loop-i in
-    let e : l.i ≡ length c.args.value.now = omega arith in
-    rw e at l.invariant.1
+returns c = let l = c.loop-byte in let e : l.byte-index ≡ length c.args.value.now = omega arith in rw e at l.invariant
