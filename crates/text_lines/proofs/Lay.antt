@@ -12,7 +12,8 @@ use lib.Seq.{take-append-add}
 use Rattle.text_lines.specs.Text.{lay_clipped, listing_room}
 use Rattle.words.specs.Word.{joined}
 use Rattle.text_lines.specs.Laid.{Listed}
-use Rattle.text_lines.specs.Steps.{last_offset, LaidOver}
+use Rattle.text_lines.specs.Steps.{last_offset, LaidOver, Written}
+use Rattle.text_lines.specs.declared.Out.{Out}
 
 pub length-lay : (at : ℕ) (vs s : List ℕ) → length (lay_clipped at vs s) ≡ length s
 unfolding lay_clipped
@@ -99,32 +100,48 @@ put-laid at from n vs s e h = rw (drop-drop, ← append_assoc) (go (dec_lt at (l
         rw (drop_of_length-le s o, m) (append-nil (take from s ++ []) ∙ p ∙ sym (lay-past at vs s (omega arith)))
 
 -- ---- what the steps promise
-pub wrote_none : (at : ℕ) (s : List ℕ) → at ≤ last_offset → LaidOver at [] s at s
-wrote_none at s h = record { cursor = omega arith; same = refl; bytes = sym (lay-none at s) }
+-- an empty text changes nothing
+pub wrote_none : (o : Out) → Written [] o o
+wrote_none o =
+    record {
+      lent = refl;
+      same = refl;
+      laid = λ i. record { cursor = omega arith; same = refl; bytes = sym (lay-none o.at o.bytes.now) };
+    }
 
-pub wrote_then : {at m r : ℕ} {vs ws s t u : List ℕ} → length s ≤ last_offset → LaidOver at vs s m t → LaidOver m ws t r u →
-    LaidOver at (vs ++ ws) s r u
-wrote_then {at} {m} {r} {vs} {ws} {s} {t} {u} h p q =
+laid_then : {at m r : ℕ} {vs ws s t u : List ℕ} → length s ≤ last_offset → LaidOver at vs s m t → LaidOver m ws t r u → LaidOver at (vs ++ ws) s r u
+laid_then {at} {m} {r} {vs} {ws} {s} {t} {u} h p q =
     record {
       cursor = rw length-append (omega arith);
       same = q.same ∙ p.same;
       bytes = q.bytes ∙ rw p.bytes (lay-then at vs ws s m last_offset h p.cursor);
     }
 
+pub wrote_then : {o m n : Out} {vs ws : List ℕ} → length o.bytes.now ≤ last_offset → Written vs o m → Written ws m n → Written (vs ++ ws) o n
+wrote_then {o} {m} {n} {vs} {ws} h p q =
+    record {
+      lent = q.lent ∙ p.lent;
+      same = q.same ∙ p.same;
+      laid = λ i. let a = p.laid i in laid_then h a (q.laid (omega (arith, a.cursor)));
+    }
+
 -- text that is put: `n` bytes of it, from `from` on
-pub wrote-put : {at from n r : ℕ} {vs s t : List ℕ} → from ≡ min at (length s) → n ≡ min (length vs) (length s - from) →
+pub laid_put : {at from n r : ℕ} {vs s t : List ℕ} → from ≡ min at (length s) → n ≡ min (length vs) (length s - from) →
     r ≡ min (at + length vs) last_offset → t ≡ take from s ++ (take n vs ++ drop n (drop from s)) → LaidOver at vs s r t
-wrote-put {at} {from} {n} {r} {vs} {s} {t} e h g f =
+laid_put {at} {from} {n} {r} {vs} {s} {t} e h g f =
     let l : t ≡ lay_clipped at vs s = f ∙ put-laid at from n vs s e h in
     record { cursor = g; same = ap length l ∙ length-lay at vs s; bytes = l }
 
 -- equal texts
-pub wrote-same : {at r : ℕ} {vs ws s t : List ℕ} → vs ≡ ws → LaidOver at vs s r t → LaidOver at ws s r t
-wrote-same {at} {r} {vs} {ws} {s} {t} e p = rw (← e) p
+pub laid-same : {at r : ℕ} {vs ws s t : List ℕ} → vs ≡ ws → LaidOver at vs s r t → LaidOver at ws s r t
+laid-same {at} {r} {vs} {ws} {s} {t} e p = rw (← e) p
+
+pub wrote-same : {o n : Out} {vs ws : List ℕ} → vs ≡ ws → Written vs o n → Written ws o n
+wrote-same {o} {n} {vs} {ws} e p = rw (← e) p
 
 -- one more part of many
-pub wrote-more : (f : ℕ → List ℕ) (i : ℕ) {at m r : ℕ} {s t u : List ℕ} → length s ≤ last_offset → LaidOver at (joined i f) s m t →
-    LaidOver m (f i) t r u → LaidOver at (joined (i + 1) f) s r u
+pub wrote-more : (f : ℕ → List ℕ) (i : ℕ) {o m n : Out} → length o.bytes.now ≤ last_offset → Written (joined i f) o m → Written (f i) m n →
+    Written (joined (i + 1) f) o n
 unfolding joined
 wrote-more f i h p q = rw add-one (wrote_then h p q)
 

@@ -2,18 +2,17 @@ use Rattle.std.proofs.Common.{◌≡◌, length, arith, rules}
 use Rattle.words.specs.Word.{joined}
 use Rattle.text_lines.specs.Text.{space, value_byte, value_text}
 use Rattle.text_lines.proofs.Lay.{wrote_none, wrote_then, wrote-more}
-use Rattle.text_lines.proofs.put_value.Goals as goal
+use Rattle.text_lines.proofs.Out.put_value.Goals as goal
 
 pub loop-byte-init : goal.loop-byte-init
 unfolding joined
-loop-byte-init c = let a = c.args in wrote_none a.at a.out.now (search rules)
+loop-byte-init c = wrote_none c.args.self.now
 
 pub loop-byte-preserved : goal.loop-byte-preserved
 unfolding value_byte space
 loop-byte-preserved c =
-    let a = c.args in
     let l = c.loop-byte in
-    wrote-more (value_byte a.value.now) l.byte-index (search rules) l.invariant (wrote_then (search rules) c.put-to.ensures c.put_byte-to.ensures)
+    wrote-more (value_byte c.args.value.now) l.byte-index (search rules) l.invariant (wrote_then (search rules) c.put.ensures c.put_byte.ensures)
 
 pub returns : goal.returns
 unfolding value_text

@@ -1,7 +1,0 @@
-use Rattle.words.specs.Word.{joined}
-use Rattle.text_lines.specs.Text.{value_byte}
-use Rattle.text_lines.specs.Steps.{LaidOver}
-use Rattle.text_lines.proofs.put_value.Given as goal
-
-abbrev pub invariant-loop-byte : goal.invariant-loop-byte
-invariant-loop-byte l = LaidOver l.at (joined l.byte-index (value_byte l.value)) l.initial.out l.to l.out
