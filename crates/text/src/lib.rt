@@ -8,7 +8,7 @@ ghost use Rattle.field_lookup.specs.Steps.{shown_from};
 ghost use Rattle.words.specs.Word.{joined};
 ghost use Rattle.text_lines.specs.Text.{word_text, entry_text, count_text, state_text, title_text, section_text, head_text, pointer_text, plat_text, fields_text, listing_of, printed};
 ghost use Rattle.text_lines.specs.Laid.{Listed};
-ghost use Rattle.text_lines.specs.Steps.{seen, Written};
+ghost use Rattle.text_lines.specs.Steps.{seen, refusal_line, Written};
 
 use fields::FieldStep;
 use reader::{Refusal, Section, View};
@@ -166,14 +166,24 @@ fn put_code(out: &mut Out, code: Refusal)
     }
 }
 
-// Writes the listing of what a reader answers.
+// Writes the line of a reading that refuses; nothing for an accepted one.
+fn put_refused(out: &mut Out, reading: Result<View, Refusal>)
+    ensures { Written (refusal_line reading) out.old out.new }
+{
+    match reading {
+        Ok(_) => {}
+        Err(code) => put_code(out, code),
+    }
+}
+
+// Writes the listing of what a reader answers. `let .. else` is the form that the project names for it (docs/DECISIONS.md, "Forms").
 fn put_reading(out: &mut Out, page: &[u8], reading: Result<View, Refusal>)
     ensures { Written (listing_of (reading_answer page.now reading)) out.old out.new }
 {
-    match reading {
-        Ok(view) => put_view(out, page, view),
-        Err(code) => put_code(out, code),
-    }
+    let Ok(view) = reading else {
+        return put_refused(out, reading);
+    };
+    put_view(out, page, view);
 }
 
 // Writes the listing of a page at `base`, read as `edition`, to the start of `out`, as far as it fits; the rest of `out` is unchanged. Returns the

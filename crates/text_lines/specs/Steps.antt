@@ -1,14 +1,15 @@
 -- For the steps of `field_text` and `text`. Laws of proofs/Parts.antt: `seen-listed` proves the lines of what is `seen` equal to `listing_of` of a view's
 -- answer, `fields-step` proves `place_text` and the lines after it equal to `fields_text`, and `listed`
 -- (proofs/Lay.antt) proves what is `LaidOver` from offset 0 to be `Listed` (Laid.antt). Assumes nothing.
-use Rattle.std.specs.Prelude.{ℕ, ◌+◌, ◌≤◌, min, ◌≡◌, List, [], length, Option, Some, None}
-use Rattle.reader.specs.Answer.{Shown}
-use Rattle.reader.specs.Reading.{section_of, shown_as}
+use Rattle.std.specs.Prelude.{ℕ, ◌+◌, ◌≤◌, min, ◌≡◌, List, [], length, Option, Some, None, Result, Ok, Err}
+use Rattle.reader.specs.Answer.{Shown, refused}
+use Rattle.reader.specs.Reading.{refusal_number, section_of, shown_as}
 use Rattle.reader.specs.declared.View.{View}
+use Rattle.reader.specs.declared.Refusal.{Refusal}
 use Rattle.fields.specs.Fields.{raw, withdrawn}
 use Rattle.fields.specs.declared.FieldPlace.{FieldPlace}
 use Rattle.fields.specs.declared.FieldPlace.TheVariants.{Raw, Withdrawn}
-use Rattle.text_lines.specs.Text.{lay_clipped, field_text}
+use Rattle.text_lines.specs.Text.{lay_clipped, field_text, listing_of}
 use Rattle.text_lines.specs.declared.Out.{Out}
 
 -- section `k` of a view, as it is shown with the page
@@ -20,6 +21,11 @@ unfoldable pub place_text : Option FieldPlace → List ℕ → List ℕ
 place_text (Some (Raw t at n)) v = field_text (raw t v)
 place_text (Some Withdrawn) v = field_text withdrawn
 place_text None v = []
+
+-- the line of a reading that refuses; empty otherwise
+unfoldable pub refusal_line : Result View Refusal → List ℕ
+refusal_line (Err c) = listing_of (refused (refusal_number c))
+refusal_line (Ok v) = []
 
 -- ---- a part of the text, written from an offset on
 -- the largest offset; sums that overflow end there
