@@ -8,216 +8,182 @@ ghost use Rattle.field_lookup.specs.Steps.{shown_from};
 ghost use Rattle.words.specs.Word.{joined};
 ghost use Rattle.text_lines.specs.Text.{word_text, entry_text, count_text, state_text, title_text, section_text, head_text, pointer_text, plat_text, fields_text, listing_of, printed};
 ghost use Rattle.text_lines.specs.Laid.{Listed};
-ghost use Rattle.text_lines.specs.Steps.{seen, refusal_line, LaidOver};
+ghost use Rattle.text_lines.specs.Steps.{seen, refusal_line, Written};
 
+use fields::FieldStep;
 use reader::{Refusal, Section, View};
+use text_lines::Out;
 
 // Writes word `j` of an entry of section `k`: a console's name as bytes, any other word in hex.
-fn put_word(out: &mut [u8], at: usize, k: usize, j: usize, w: u64) -> usize
-    ensures { LaidOver at (word_text k j w) out.old result out.new }
+fn put_word(out: &mut Out, k: usize, j: usize, w: u64)
+    ensures { Written (word_text k j w) out.old out.new }
 {
-    if k != 1 {
-        return text_lines::put_hex(out, at, w);
+    match (k, j) {
+        (1, 2) => out.put_name(w),
+        _ => out.put_hex(w),
     }
-    if j != 2 {
-        return text_lines::put_hex(out, at, w);
-    }
-    text_lines::put_name(out, at, w)
 }
 
 // Writes entry `i` of section `k` on a page of that minor: its words and the end of the line. This and the functions that call it take the section,
 // not the view, because passing a view costs stack at each level.
-fn put_entry(
-    out: &mut [u8],
-    at: usize,
-    page: &[u8],
-    minor: u64,
-    section: Section,
-    k: usize,
-    i: usize,
-) -> usize
-    ensures { LaidOver at (entry_text k (shown_as minor k section page.now) i) out.old result out.new }
+// This and the next two loops count: entries, words and sections are looked up by number, and there is no list of them to go over.
+fn put_entry(out: &mut Out, page: &[u8], minor: u64, section: Section, k: usize, i: usize)
+    ensures { Written (entry_text k (shown_as minor k section page.now) i) out.old out.new }
 {
-    let n = entries::entry_words(k);
-    let mut to = at;
-    for j in 0..n {
-        to = text_lines::put_gap(out, to, j);
+    for j in 0..entries::entry_words(k) {
+        out.put_gap(j);
         let w = lookup::word_in(page, minor, section, k, i, j);
-        to = put_word(out, to, k, j, w);
+        put_word(out, k, j, w);
     }
-    text_lines::put_end(out, to)
+    out.put_end();
 }
 
 // Writes the first `n` entries of section `k`, on a page of that minor.
-fn put_entries(
-    out: &mut [u8],
-    at: usize,
-    page: &[u8],
-    minor: u64,
-    section: Section,
-    k: usize,
-    n: usize,
-) -> usize
-    ensures { LaidOver at (joined n (entry_text k (shown_as minor k section page.now))) out.old result out.new }
+fn put_entries(out: &mut Out, page: &[u8], minor: u64, section: Section, k: usize, n: usize)
+    ensures { Written (joined n (entry_text k (shown_as minor k section page.now))) out.old out.new }
 {
-    let mut to = at;
     for i in 0..n {
-        to = put_entry(out, to, page, minor, section, k, i);
+        put_entry(out, page, minor, section, k, i);
     }
-    to
 }
 
 // Writes the count of section `k` and its entries.
-fn put_count(
-    out: &mut [u8],
-    at: usize,
-    page: &[u8],
-    minor: u64,
-    section: Section,
-    k: usize,
-) -> usize
-    ensures { LaidOver at (count_text k (shown_as minor k section page.now)) out.old result out.new }
+fn put_count(out: &mut Out, page: &[u8], minor: u64, section: Section, k: usize)
+    ensures { Written (count_text k (shown_as minor k section page.now)) out.old out.new }
 {
     let n = lookup::count_in(page, section, k);
-    let to = text_lines::put_decimal(out, at, n as u64);
-    let to = text_lines::put_end(out, to);
-    put_entries(out, to, page, minor, section, k, n)
+    out.put_decimal(n as u64);
+    out.put_end();
+    put_entries(out, page, minor, section, k, n);
 }
 
 // Writes what follows the name of section `k`: `absent`, or its count and entries.
-fn put_state(
-    out: &mut [u8],
-    at: usize,
-    page: &[u8],
-    minor: u64,
-    section: Section,
-    k: usize,
-) -> usize
-    ensures { LaidOver at (state_text k (shown_as minor k section page.now)) out.old result out.new }
+fn put_state(out: &mut Out, page: &[u8], minor: u64, section: Section, k: usize)
+    ensures { Written (state_text k (shown_as minor k section page.now)) out.old out.new }
 {
     match section {
-        Section::Absent => text_lines::put(out, at, b"absent\n"),
-        _ => put_count(out, at, page, minor, section, k),
+        Section::Absent => out.put(b"absent\n"),
+        _ => put_count(out, page, minor, section, k),
     }
 }
 
 // Writes the name of section `k`.
-fn put_title(out: &mut [u8], at: usize, k: usize) -> usize
-    ensures { LaidOver at (title_text k) out.old result out.new }
+fn put_title(out: &mut Out, k: usize)
+    ensures { Written (title_text k) out.old out.new }
 {
     match k {
-        0 => text_lines::put(out, at, b"dram"),
-        1 => text_lines::put(out, at, b"console"),
-        2 => text_lines::put(out, at, b"ncoh"),
-        _ => text_lines::put(out, at, b"coh"),
+        0 => out.put(b"dram"),
+        1 => out.put(b"console"),
+        2 => out.put(b"ncoh"),
+        _ => out.put(b"coh"),
     }
 }
 
 // Writes section `k`, on a page of that minor.
-fn put_section(
-    out: &mut [u8],
-    at: usize,
-    page: &[u8],
-    minor: u64,
-    section: Section,
-    k: usize,
-) -> usize
-    ensures { LaidOver at (section_text (λ i. shown_as minor i section page.now) k) out.old result out.new }
+fn put_section(out: &mut Out, page: &[u8], minor: u64, section: Section, k: usize)
+    ensures { Written (section_text (λ i. shown_as minor i section page.now) k) out.old out.new }
 {
-    let to = put_title(out, at, k);
-    let to = text_lines::put(out, to, b" ");
-    put_state(out, to, page, minor, section, k)
+    put_title(out, k);
+    out.put(b" ");
+    put_state(out, page, minor, section, k);
 }
 
 // Writes the four sections of a view.
-fn put_sections(out: &mut [u8], at: usize, page: &[u8], view: View) -> usize
-    ensures { LaidOver at (joined 4 (section_text (seen view page.now))) out.old result out.new }
+fn put_sections(out: &mut Out, page: &[u8], view: View)
+    ensures { Written (joined 4 (section_text (seen view page.now))) out.old out.new }
 {
-    let mut to = at;
     for k in 0..4 {
         let section = reader::section_of(view, k);
-        to = put_section(out, to, page, view.minor, section, k);
+        put_section(out, page, view.minor, section, k);
     }
-    to
 }
 
 // Writes the first line: the version, whose major is 0, and the edition that the page was read as.
-fn put_head(out: &mut [u8], at: usize, minor: u64, edition: u64) -> usize
-    ensures { LaidOver at (head_text minor edition) out.old result out.new }
+fn put_head(out: &mut Out, minor: u64, edition: u64)
+    ensures { Written (head_text minor edition) out.old out.new }
 {
-    let to = text_lines::put(out, at, b"manifest 0.");
-    let to = text_lines::put_decimal(out, to, minor);
-    let to = text_lines::put(out, to, b" read as ");
-    let to = text_lines::put_decimal(out, to, edition);
-    text_lines::put_end(out, to)
+    out.put(b"manifest 0.");
+    out.put_decimal(minor);
+    out.put(b" read as ");
+    out.put_decimal(edition);
+    out.put_end();
 }
 
 // Writes the platform pointer, or `none` if it is 0.
-fn put_pointer(out: &mut [u8], at: usize, plat: u64) -> usize
-    ensures { LaidOver at (pointer_text plat) out.old result out.new }
+fn put_pointer(out: &mut Out, plat: u64)
+    ensures { Written (pointer_text plat) out.old out.new }
 {
-    if plat == 0 {
-        return text_lines::put(out, at, b"none");
+    match plat {
+        0 => out.put(b"none"),
+        _ => out.put_hex(plat),
     }
-    text_lines::put_hex(out, at, plat)
 }
 
 // Writes the second line: the platform pointer.
-fn put_plat(out: &mut [u8], at: usize, plat: u64) -> usize
-    ensures { LaidOver at (plat_text plat) out.old result out.new }
+fn put_plat(out: &mut Out, plat: u64)
+    ensures { Written (plat_text plat) out.old out.new }
 {
-    let to = text_lines::put(out, at, b"platform ");
-    let to = put_pointer(out, to, plat);
-    text_lines::put_end(out, to)
+    out.put(b"platform ");
+    put_pointer(out, plat);
+    out.put_end();
 }
 
 // Writes the fields from cursor `start` on.
-fn put_fields(out: &mut [u8], at: usize, page: &[u8], start: usize) -> usize
-    ensures { LaidOver at (fields_text (shown_from start page.now)) out.old result out.new }
+fn put_fields(out: &mut Out, page: &[u8], start: usize)
+    ensures { Written (fields_text (shown_from start page.now)) out.old out.new }
 {
-    let mut to = at;
     let mut cursor = start;
-    loop {
-        let step = field_lookup::field_next(page, cursor);
-        if step.field.is_none() {
-            return to;
-        }
-        let value = field_lookup::value_of(page, step.field);
-        to = field_text::put_field(out, to, step.field, value);
-        cursor = step.next;
+    while let FieldStep {
+        field: Some(field),
+        next,
+    } = field_lookup::field_next(page, cursor)
+    {
+        let value = field_lookup::value_of(page, Some(field));
+        field_text::put_field(out, Some(field), value);
+        cursor = next;
     }
 }
 
 // Writes the listing of an accepted page.
-fn put_view(out: &mut [u8], page: &[u8], view: View) -> usize
-    ensures { LaidOver 0 (listing_of (reading_answer page.now (Ok view))) out.old result out.new }
+fn put_view(out: &mut Out, page: &[u8], view: View)
+    ensures { Written (listing_of (reading_answer page.now (Ok view))) out.old out.new }
 {
-    let to = put_head(out, 0, view.minor, view.edition);
-    let to = put_plat(out, to, view.plat);
+    put_head(out, view.minor, view.edition);
+    put_plat(out, view.plat);
     let start = field_lookup::fields_start(page, view);
-    let to = put_fields(out, to, page, start);
-    put_sections(out, to, page, view)
+    put_fields(out, page, start);
+    put_sections(out, page, view);
 }
 
 // Writes the line of a code.
-fn put_code(out: &mut [u8], code: Refusal) -> usize
-    ensures { LaidOver 0 (listing_of (refused (refusal_number code))) out.old result out.new }
+fn put_code(out: &mut Out, code: Refusal)
+    ensures { Written (listing_of (refused (refusal_number code))) out.old out.new }
 {
     match code {
-        Refusal::Place => text_lines::put(out, 0, b"refused -5\n"),
-        Refusal::Version => text_lines::put(out, 0, b"refused -6\n"),
-        Refusal::Rules => text_lines::put(out, 0, b"refused -7\n"),
+        Refusal::Place => out.put(b"refused -5\n"),
+        Refusal::Version => out.put(b"refused -6\n"),
+        Refusal::Rules => out.put(b"refused -7\n"),
     }
 }
 
 // Writes the line of a reading that refuses; nothing for an accepted one.
-fn put_refused(out: &mut [u8], reading: Result<View, Refusal>) -> usize
-    ensures { LaidOver 0 (refusal_line reading) out.old result out.new }
+fn put_refused(out: &mut Out, reading: Result<View, Refusal>)
+    ensures { Written (refusal_line reading) out.old out.new }
 {
     match reading {
-        Ok(_) => 0,
+        Ok(_) => {}
         Err(code) => put_code(out, code),
     }
+}
+
+// Writes the listing of what a reader answers. `let .. else` is the form that the project names for it (docs/DECISIONS.md, "Forms").
+fn put_reading(out: &mut Out, page: &[u8], reading: Result<View, Refusal>)
+    ensures { Written (listing_of (reading_answer page.now reading)) out.old out.new }
+{
+    let Ok(view) = reading else {
+        return put_refused(out, reading);
+    };
+    put_view(out, page, view);
 }
 
 // Writes the listing of a page at `base`, read as `edition`, to the start of `out`, as far as it fits; the rest of `out` is unchanged. Returns the
@@ -225,11 +191,9 @@ fn put_refused(out: &mut [u8], reading: Result<View, Refusal>) -> usize
 pub fn list(page: &[u8], base: u64, edition: u64, out: &mut [u8]) -> usize
     ensures { Listed (listing_of (read_of edition base page.now)) out.old result out.new }
 {
-    let reading = reader::read(page, base, edition);
-    let Ok(view) = reading else {
-        return put_refused(out, reading);
-    };
-    put_view(out, page, view)
+    let mut text = Out { bytes: out, at: 0 };
+    put_reading(&mut text, page, reader::read(page, base, edition));
+    text.at
 }
 
 // Writes the listing of the program's input: 8 bytes of B, then the page, read as edition 4. Returns the length of the whole text.
@@ -237,7 +201,9 @@ pub fn list_input(input: &[u8], out: &mut [u8]) -> usize
     ensures { Listed (printed input.now) out.old result out.new }
 {
     if input.len() != 4104 {
-        return put_code(out, Refusal::Place);
+        let mut text = Out { bytes: out, at: 0 };
+        put_code(&mut text, Refusal::Place);
+        return text.at;
     }
     list(&input[8..], words::word_at(input, 0), 4, out)
 }

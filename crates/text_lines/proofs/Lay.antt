@@ -1,18 +1,19 @@
 -- Bytes laid over a list as far as they fit, one run after the other. Assumes nothing.
 use Prim.Native.Nat.{ℕ, ◌+◌, ◌-◌, ◌≤◌, ◌<◌, min}
 use mathlib.Core.Path.{◌≡◌, refl, sym, ap, ◌∙◌}
-use mathlib.Core.List.{List, [], ◌∷◌, ◌++◌, append_assoc, append-nil}
+use mathlib.Core.List.{List, [], ◌++◌, append_assoc, append-nil}
 use native.Mathlib.Numerals.{add-one}
 use native.Mathlib.Nat.{add_assoc, add-zero}
 use native.Mathlib.Decide.{dec_lt}
 use native.Mathlib.Omega.{arith}
-use lib.ListN.{length, take, drop, set, get_or, length-append, length-take, length-drop, take-append-drop, drop_of_length-le}
-use lib.Seq.{length-take-le, take-nil, take_all, take_at, drop_at, drop-drop, take-take, take-suc, set_split, take-append-le}
-use lib.Seq.{take-append-add, append_snoc}
+use lib.ListN.{length, take, drop, length-append, length-take, length-drop, take-append-drop, drop_of_length-le}
+use lib.Seq.{length-take-le, take-nil, take_all, take_at, drop_at, drop-drop, take-append-le}
+use lib.Seq.{take-append-add}
 use Rattle.text_lines.specs.Text.{lay_clipped, listing_room}
 use Rattle.words.specs.Word.{joined}
 use Rattle.text_lines.specs.Laid.{Listed}
-use Rattle.text_lines.specs.Steps.{last_offset, LaidOver}
+use Rattle.text_lines.specs.Steps.{last_offset, LaidOver, Written}
+use Rattle.text_lines.specs.declared.Out.{Out}
 
 pub length-lay : (at : ℕ) (vs s : List ℕ) → length (lay_clipped at vs s) ≡ length s
 unfolding lay_clipped
@@ -77,57 +78,70 @@ module _ (at : ℕ) (vs ws s : List ℕ) where
       go (yes k) = rw (let f : m ≡ at + length vs = omega arith in f) (lay-then-in (omega arith))
       go (no k) = lay-then-end m (omega arith) (omega arith)
 
--- ---- byte by byte
-set-lay : (s : List ℕ) (i x : ℕ) → i < length s → set s i x ≡ lay_clipped i (x ∷ []) s
-set-lay s i x h = set_split s i x h ∙ sym (lay-in i (x ∷ []) s (omega arith) ∙ rw (add-one, append_snoc))
-
-pub lay-more : (at i : ℕ) (vs s : List ℕ) → at + i < length s → i < length vs →
-    set (lay_clipped at (take i vs) s) (at + i) (get_or vs i 0) ≡ lay_clipped at (take (i + 1) vs) s
-lay-more at i vs s h k =
-    let l : length (take i vs) ≡ i = length-take-le i vs (omega arith) in
-    let n : at + i < length (lay_clipped at (take i vs) s) = rw (length-lay at (take i vs) s) h in
-    rw (add-one, take-suc vs i 0 k)
-    (set-lay (lay_clipped at (take i vs) s) (at + i) (get_or vs i 0) n ∙
-    rw l at (lay-then-in at (take i vs) (get_or vs i 0 ∷ []) s (omega arith)))
-
--- only the part of vs that fits counts
-pub lay-fits : (at n : ℕ) (vs s : List ℕ) → n ≡ min (length vs) (length s - at) → lay_clipped at (take n vs) s ≡ lay_clipped at vs s
-lay-fits at n vs s e = go (dec_lt (length vs) (length s - at))
+-- ---- only the part of vs that fits counts
+put-laid : (at from n : ℕ) (vs s : List ℕ) → from ≡ min at (length s) → n ≡ min (length vs) (length s - from) →
+    take from s ++ (take n vs ++ drop n (drop from s)) ≡ lay_clipped at vs s
+put-laid at from n vs s e h = rw (drop-drop, ← append_assoc) (go (dec_lt at (length s)) (dec_lt (at + length vs) (length s)))
   where
-    go : Dec (length vs < length s - at) → lay_clipped at (take n vs) s ≡ lay_clipped at vs s
-    go (yes k) = rw (take_all n vs (omega arith))
-    go (no k) =
-        let l : length (take n vs) ≡ n = length-take-le n vs (omega arith) in
-        let m : length s - at ≤ n = omega arith in
-        rw (lay-end at (take n vs) s (omega arith), lay-end at vs s (omega arith), take-take (length s - at) n vs m)
+    go : Dec (at < length s) → Dec (at + length vs < length s) → take from s ++ take n vs ++ drop (from + n) s ≡ lay_clipped at vs s
+    go (yes k) (yes l) =
+        let f : from ≡ at = omega arith in
+        let m : n ≡ length vs = omega arith in
+        rw (f, m, take_all (length vs) vs (omega arith)) (sym (lay-in at vs s (omega arith)))
+    go (yes k) (no l) =
+        let f : from ≡ at = omega arith in
+        let m : n ≡ length s - at = omega arith in
+        let o : length s ≤ from + n = omega arith in
+        rw (drop_of_length-le s o, append-nil, f, m) (sym (lay-end at vs s (omega arith)))
+    go (no k) l =
+        let m : n ≡ 0 = omega arith in
+        let o : length s ≤ from + n = omega arith in
+        let p : take from s ++ [] ≡ s = append-nil (take from s) ∙ take_all from s (omega arith) in
+        rw (drop_of_length-le s o, m) (append-nil (take from s ++ []) ∙ p ∙ sym (lay-past at vs s (omega arith)))
 
 -- ---- what the steps promise
-pub wrote_none : (at : ℕ) (s : List ℕ) → at ≤ last_offset → LaidOver at [] s at s
-wrote_none at s h = record { cursor = omega arith; same = refl; bytes = sym (lay-none at s) }
+-- an empty text changes nothing
+pub wrote_none : (o : Out) → Written [] o o
+wrote_none o =
+    record {
+      lent = refl;
+      same = refl;
+      laid = λ i. record { cursor = omega arith; same = refl; bytes = sym (lay-none o.at o.bytes.now) };
+    }
 
-pub wrote_then : {at m r : ℕ} {vs ws s t u : List ℕ} → length s ≤ last_offset → LaidOver at vs s m t → LaidOver m ws t r u →
-    LaidOver at (vs ++ ws) s r u
-wrote_then {at} {m} {r} {vs} {ws} {s} {t} {u} h p q =
+laid_then : {at m r : ℕ} {vs ws s t u : List ℕ} → length s ≤ last_offset → LaidOver at vs s m t → LaidOver m ws t r u → LaidOver at (vs ++ ws) s r u
+laid_then {at} {m} {r} {vs} {ws} {s} {t} {u} h p q =
     record {
       cursor = rw length-append (omega arith);
       same = q.same ∙ p.same;
       bytes = q.bytes ∙ rw p.bytes (lay-then at vs ws s m last_offset h p.cursor);
     }
 
--- text that is put byte by byte
-pub wrote-put : (at n r : ℕ) (vs s t : List ℕ) → n ≡ min (length vs) (length s - at) → r ≡ min (at + length vs) last_offset →
-    t ≡ lay_clipped at (take n vs) s → LaidOver at vs s r t
-wrote-put at n r vs s t e g f =
-    let h : t ≡ lay_clipped at vs s = f ∙ lay-fits at n vs s e in
-    record { cursor = g; same = ap length h ∙ length-lay at vs s; bytes = h }
+pub wrote_then : {o m n : Out} {vs ws : List ℕ} → length o.bytes.now ≤ last_offset → Written vs o m → Written ws m n → Written (vs ++ ws) o n
+wrote_then {o} {m} {n} {vs} {ws} h p q =
+    record {
+      lent = q.lent ∙ p.lent;
+      same = q.same ∙ p.same;
+      laid = λ i. let a = p.laid i in laid_then h a (q.laid (omega (arith, a.cursor)));
+    }
+
+-- text that is put: `n` bytes of it, from `from` on
+pub laid_put : {at from n r : ℕ} {vs s t : List ℕ} → from ≡ min at (length s) → n ≡ min (length vs) (length s - from) →
+    r ≡ min (at + length vs) last_offset → t ≡ take from s ++ (take n vs ++ drop n (drop from s)) → LaidOver at vs s r t
+laid_put {at} {from} {n} {r} {vs} {s} {t} e h g f =
+    let l : t ≡ lay_clipped at vs s = f ∙ put-laid at from n vs s e h in
+    record { cursor = g; same = ap length l ∙ length-lay at vs s; bytes = l }
 
 -- equal texts
-pub wrote-same : {at r : ℕ} {vs ws s t : List ℕ} → vs ≡ ws → LaidOver at vs s r t → LaidOver at ws s r t
-wrote-same {at} {r} {vs} {ws} {s} {t} e p = rw (← e) p
+pub laid-same : {at r : ℕ} {vs ws s t : List ℕ} → vs ≡ ws → LaidOver at vs s r t → LaidOver at ws s r t
+laid-same {at} {r} {vs} {ws} {s} {t} e p = rw (← e) p
+
+pub wrote-same : {o n : Out} {vs ws : List ℕ} → vs ≡ ws → Written vs o n → Written ws o n
+wrote-same {o} {n} {vs} {ws} e p = rw (← e) p
 
 -- one more part of many
-pub wrote-more : (f : ℕ → List ℕ) (i : ℕ) {at m r : ℕ} {s t u : List ℕ} → length s ≤ last_offset → LaidOver at (joined i f) s m t →
-    LaidOver m (f i) t r u → LaidOver at (joined (i + 1) f) s r u
+pub wrote-more : (f : ℕ → List ℕ) (i : ℕ) {o m n : Out} → length o.bytes.now ≤ last_offset → Written (joined i f) o m → Written (f i) m n →
+    Written (joined (i + 1) f) o n
 unfolding joined
 wrote-more f i h p q = rw add-one (wrote_then h p q)
 

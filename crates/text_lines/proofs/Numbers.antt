@@ -1,18 +1,16 @@
--- How many digits a number takes, and the bytes of a name. Assumes nothing.
-use Prim.Native.Nat.{ℕ, zero, suc, ◌+◌, ◌-◌, ◌*◌, ◌/◌, ◌%◌, ◌^◌, ◌≤◌, ◌<◌}
-use mathlib.Core.Path.{◌≡◌, refl, sym, ap, ◌∙◌}
+-- How many digits a number takes. Assumes nothing.
+use Prim.Native.Nat.{ℕ, zero, suc, ◌-◌, ◌*◌, ◌/◌, ◌^◌, ◌≤◌, ◌<◌}
+use mathlib.Core.Path.{◌≡◌, refl, ap, ◌∙◌}
 use mathlib.Core.Bool.{cond}
 use mathlib.Core.List.{List}
-use native.Mathlib.Nat.{pow-le-pow_right, pow-suc, not-suc-le-zero, div-one, div-div-eq-div-mul, mul_comm}
-use native.Mathlib.Numerals.{add-one}
+use native.Mathlib.Nat.{pow-le-pow_right, pow-suc, not-suc-le-zero}
 use native.Mathlib.Decide.{dec_lt}
 use native.Mathlib.Omega.{arith}
 use lib.Dec.{lit≤, ltb}
-use lib.ListN.{take, get_or}
+use lib.ListN.{take}
 use borrow.Author.Tests.{lt-ltb, le-ltb}
 use Rattle.io.specs.Digits.{last_digits, IsDigitCount}
-use Rattle.words.specs.Word.{le_bytes}
-use Rattle.text_lines.specs.Text.{places_in, places, decimal, byte_text, name_byte}
+use Rattle.text_lines.specs.Text.{places_in, places, decimal}
 
 -- ---- decimal numbers
 -- ten to the power of one or more
@@ -75,20 +73,3 @@ width k n r h f = go (dec_lt k r)
 -- what `io::hex` writes is that number of digits
 pub hex-put : (k n r : ℕ) (t : List ℕ) → n < 16 ^ k → IsDigitCount 16 k n r → take r t ≡ last_digits 16 r n → take r t ≡ last_digits 16 k n
 hex-put k n r t h f e = e ∙ ap (λ x. last_digits 16 x n) (width k n r h f)
-
--- ---- the bytes of a name
-pub byte_of : (n i w : ℕ) → i < n → get_or (le_bytes n w) i 0 ≡ w / 256 ^ i % 256
-unfolding le_bytes
-byte_of zero i w h = absurd (not-suc-le-zero h)
-byte_of (suc n) zero w h = rw div-one
-byte_of (suc n) (suc i) w h = byte_of n i (w / 256) (omega arith) ∙ rw (div-div-eq-div-mul, pow-suc, mul_comm 256 (256 ^ i))
-
-pub name-byte : (w i rest : ℕ) → i < 8 → rest ≡ w / 256 ^ i → byte_text (rest % 256) ≡ name_byte w i
-unfolding name_byte
-name-byte w i rest h e = ap byte_text (rw e (sym (byte_of 8 i w h)))
-
-pub name-rest : (w i rest : ℕ) → rest ≡ w / 256 ^ i → rest / 256 ≡ w / 256 ^ (i + 1)
-name-rest w i rest e = rw (e, add-one, pow-suc) (div-div-eq-div-mul w (256 ^ i) 256)
-
-pub name-all : (w : ℕ) → w ≡ w / 256 ^ 0
-name-all w = sym (div-one w)

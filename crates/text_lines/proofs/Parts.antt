@@ -13,14 +13,12 @@ use Rattle.words.specs.Tests.{both}
 use Rattle.words.specs.Word.{word_at, joined}
 use Rattle.entries.specs.Entry.{size}
 use Rattle.reader.specs.Answer.{refused, read_of, empty, full, entry_word, fields_shown}
-use Rattle.reader.specs.Reading.{refusal_number, section_of, shown_as, reading_answer, reading_of}
+use Rattle.reader.specs.Reading.{refusal_number, section_of, shown_as, reading_answer}
 use Rattle.reader.specs.declared.Section.{Section}
 use Rattle.reader.specs.declared.Section.TheVariants.{Absent, Empty, Entries}
 use Rattle.reader.specs.declared.View.{View}
-use Rattle.reader.specs.declared.Refusal.{Refusal}
 use Rattle.reader.specs.declared.Refusal.TheVariants.{Place}
-use Rattle.std.specs.Prelude.{Result, Ok, Err}
-use Rattle.reader.proofs.Whole.{reading-answer}
+use Rattle.std.specs.Prelude.{Ok}
 use Rattle.fields.specs.Steps.{step_at}
 use Rattle.lookup.specs.Fast.{word_of}
 use Rattle.field_lookup.specs.Fields.{shown_value, value_in, field_as}
@@ -32,7 +30,7 @@ use Rattle.fields.specs.declared.FieldStep.{FieldStep}
 use Rattle.field_lookup.proofs.Fields.{place_shown, step-some, step-first}
 use Rattle.text_lines.specs.Text.{newline, space, none_text, absent_text, title_text, hex_text, name_text, word_text, gap_text, count_text}
 use Rattle.text_lines.specs.Text.{state_text, section_text, head_text, plat_text, pointer_text, field_text, fields_text, listing_of, printed}
-use Rattle.text_lines.specs.Steps.{seen, place_text, refusal_line}
+use Rattle.text_lines.specs.Steps.{seen, place_text}
 
 -- ---- the space before a word
 pub gap-none : (j : ℕ) → j ≡ 0 → [] ≡ gap_text j
@@ -92,15 +90,19 @@ place-line (Some (Raw t v m)) page vs n w = rw w
 place-line (Some Withdrawn) page vs n w = refl
 place-line None page vs n w = absurd (false≢true (sym n))
 
-pub fields-step : (at : ℕ) (page : List ℕ) (s : FieldStep) (vs : List ℕ) → s ≡ step_at at page → is_none s.field ≡ false →
-    vs ≡ value_in (field_as s.field page) →
-    place_text s.field vs ++ fields_text (shown_from s.next page) ≡ fields_text (shown_from at page)
-unfolding fields_text value_in
-fields-step at page s vs h f w =
-    let n : is_none (step_at at page).field ≡ false = ap (λ (x : FieldStep). is_none x.field) (sym h) ∙ f in
-    let q : vs ≡ shown_value (place_shown (step_at at page).field page) = w ∙ ap (λ (x : FieldStep). value_in (field_as x.field page)) h ∙
-    ap value_in (step-first at page n) in
-    rw (h, place-line (step_at at page).field page vs n q, step-some at page n)
+-- the field that a step passes, and the field's line before those after it
+module _ (at : ℕ) (page : List ℕ) (s : FieldStep) (f : FieldPlace) (h : s ≡ step_at at page) (e : s.field ≡ Some f) where
+  pub step-passes : is_none (step_at at page).field ≡ false
+  step-passes = ap (λ (x : FieldStep). is_none x.field) (sym h) ∙ ap (λ (x : Option FieldPlace). is_none x) e
+
+  pub fields-step : (vs : List ℕ) → vs ≡ value_in (field_as (Some f) page) →
+      place_text (Some f) vs ++ fields_text (shown_from s.next page) ≡ fields_text (shown_from at page)
+  unfolding fields_text value_in
+  fields-step vs w =
+      let g : Some f ≡ (step_at at page).field = sym e ∙ ap (λ (x : FieldStep). x.field) h in
+      let q : vs ≡ shown_value (place_shown (step_at at page).field page) =
+      w ∙ ap (λ (x : Option FieldPlace). value_in (field_as x page)) g ∙ ap value_in (step-first at page step-passes) in
+      rw (g, h, place-line (step_at at page).field page vs step-passes q, step-some at page step-passes)
 
 -- ---- a section that is absent, and one that is not
 count-shown : (k : ℕ) (b : Bool) (ws bs : List ℕ) → count_text k (cond b (full ws bs) empty) ≡ state_text k (cond b (full ws bs) empty)
@@ -126,15 +128,6 @@ pub seen-listed : (v : View) (page : List ℕ) →
     ≡ listing_of (reading_answer page (Ok v))
 unfolding reading_answer fields_shown listing_of seen
 seen-listed v page = refl
-
-pub list-refused : (e base : ℕ) (page : List ℕ) (r : Result View Refusal) (c : Refusal) → r ≡ Err c → r ≡ reading_of e base page →
-    refusal_line r ≡ listing_of (read_of e base page)
-unfolding refusal_line reading_answer
-list-refused e base page r c h f = rw (← reading-answer e base page, ← f, h)
-
-pub list-accepted : (e base : ℕ) (page : List ℕ) (r : Result View Refusal) (v : View) → r ≡ Ok v → r ≡ reading_of e base page →
-    listing_of (reading_answer page (Ok v)) ≡ listing_of (read_of e base page)
-list-accepted e base page r v h f = rw (← reading-answer e base page, ← f, h)
 
 -- ---- the input of the program
 pub input-refused : (input : List ℕ) → (length input ≡ 4104 → ⊥) → listing_of (refused (refusal_number Place)) ≡ printed input

@@ -1,101 +1,90 @@
-// Building blocks of the listing's lines. Each function writes text at an offset of a lent slice, as far as it fits, and returns the offset after the
-// text, even if that is past the end of the slice: so the last offset is the length of the whole text. specs/ defines the text; `field_text` and
-// `text` write its lines.
+// Building blocks of the listing's lines. Each method of `Out` writes text at the offset of a lent slice, as far as it fits, and moves the offset
+// behind the text, even if that is past the end of the slice: so the last offset is the length of the whole text. specs/ defines the text;
+// `field_text` and `text` write its lines.
 #![tactic(auto)]
 
-ghost use Rattle.std.specs.Prelude.{◌+◌, min, ◌≡◌};
 ghost use Rattle.text_lines.specs.Text.{newline, decimal, hex_text, byte_text, name_text, gap_text, value_text};
-ghost use Rattle.text_lines.specs.Steps.{last_offset, LaidOver};
+ghost use Rattle.text_lines.specs.Steps.{Written};
 
-// `at + n`, or the largest number if that overflows. No text is that long, but a single step cannot know that.
-fn saturating_add(at: usize, n: usize) -> usize
-    ensures { result ≡ min (at + n) last_offset }
-{
-    if 0xFFFF_FFFF_FFFF_FFFF - at < n {
-        return 0xFFFF_FFFF_FFFF_FFFF;
+// A text that is written into a lent slice, and the offset of its next part: at most the largest number, though no text is that long.
+#[derive(Drop)]
+pub struct Out<'a> {
+    pub bytes: &'a mut [u8],
+    pub at: usize,
+}
+
+impl<'a> Out<'a> {
+    // Writes any bytes.
+    pub fn put(&mut self, text: &[u8])
+        ensures { Written text.now self.old self.new }
+    {
+        let from = self.at.min(self.bytes.len());
+        let n = text.len().min(self.bytes.len() - from);
+        self.bytes[from..from + n].copy_from_slice(&text[..n]);
+        self.at = self.at.saturating_add(text.len());
     }
-    at + n
-}
 
-// Writes any bytes.
-pub fn put(out: &mut [u8], at: usize, text: &[u8]) -> usize
-    ensures { LaidOver at text.now out.old result out.new }
-{
-    let from = words::smaller(at as u64, out.len() as u64) as usize;
-    let n = words::smaller(text.len() as u64, (out.len() - from) as u64) as usize;
-    for i in 0..n {
-        out[at + i] = text[i];
+    // Writes a number in decimal.
+    pub fn put_decimal(&mut self, n: u64)
+        ensures { Written (decimal n) self.old self.new }
+    {
+        let mut digits = [0u8; 20];
+        let k = io::decimal(n, &mut digits);
+        self.put(&digits[..k]);
     }
-    saturating_add(at, text.len())
-}
 
-// Writes a number in decimal.
-pub fn put_decimal(out: &mut [u8], at: usize, n: u64) -> usize
-    ensures { LaidOver at (decimal n) out.old result out.new }
-{
-    let mut digits = [0u8; 20];
-    let k = io::decimal(n, &mut digits);
-    put(out, at, &digits[..k])
-}
-
-// Writes a word: 0x and 16 digits.
-pub fn put_hex(out: &mut [u8], at: usize, w: u64) -> usize
-    ensures { LaidOver at (hex_text w) out.old result out.new }
-{
-    let mut digits = [0u8; 16];
-    let k = io::hex(w, 16, &mut digits);
-    let to = put(out, at, b"0x");
-    put(out, to, &digits[..k])
-}
-
-// Writes a byte: two hex digits.
-pub fn put_byte(out: &mut [u8], at: usize, b: u8) -> usize
-    ensures { LaidOver at (byte_text b) out.old result out.new }
-{
-    let mut digits = [0u8; 16];
-    let k = io::hex(b as u64, 2, &mut digits);
-    put(out, at, &digits[..k])
-}
-
-// Writes the name of a console: its 8 bytes in order, as hex digits.
-pub fn put_name(out: &mut [u8], at: usize, w: u64) -> usize
-    ensures { LaidOver at (name_text w) out.old result out.new }
-{
-    let mut to = at;
-    let mut rest = w;
-    for i in 0..8usize {
-        to = put_byte(out, to, (rest % 256) as u8);
-        rest /= 256;
+    // Writes a word: 0x and 16 digits.
+    pub fn put_hex(&mut self, w: u64)
+        ensures { Written (hex_text w) self.old self.new }
+    {
+        let mut digits = [0u8; 16];
+        let k = io::hex(w, 16, &mut digits);
+        self.put(b"0x");
+        self.put(&digits[..k]);
     }
-    to
-}
 
-// Writes the space before word `j` of an entry; nothing before the first word.
-pub fn put_gap(out: &mut [u8], at: usize, j: usize) -> usize
-    ensures { LaidOver at (gap_text j) out.old result out.new }
-{
-    if j == 0 {
-        return at;
+    // Writes a byte: two hex digits.
+    pub fn put_byte(&mut self, b: u8)
+        ensures { Written (byte_text b) self.old self.new }
+    {
+        let mut digits = [0u8; 16];
+        let k = io::hex(b as u64, 2, &mut digits);
+        self.put(&digits[..k]);
     }
-    put(out, at, b" ")
-}
 
-// Writes the bytes of a value, each after a space.
-pub fn put_value(out: &mut [u8], at: usize, value: &[u8]) -> usize
-    ensures { LaidOver at (value_text value.now) out.old result out.new }
-{
-    let n = value.len();
-    let mut to = at;
-    for i in 0..n {
-        to = put_gap(out, to, 1);
-        to = put_byte(out, to, value[i]);
+    // Writes the name of a console: its 8 bytes in order, as hex digits.
+    pub fn put_name(&mut self, w: u64)
+        ensures { Written (name_text w) self.old self.new }
+    {
+        for byte in w.to_le_bytes() {
+            self.put_byte(byte);
+        }
     }
-    to
-}
 
-// Writes the end of a line.
-pub fn put_end(out: &mut [u8], at: usize) -> usize
-    ensures { LaidOver at newline out.old result out.new }
-{
-    put(out, at, b"\n")
+    // Writes the space before word `j` of an entry; nothing before the first word.
+    pub fn put_gap(&mut self, j: usize)
+        ensures { Written (gap_text j) self.old self.new }
+    {
+        match j {
+            0 => self.put(b""),
+            _ => self.put(b" "),
+        }
+    }
+
+    // Writes the bytes of a value, each after a space.
+    pub fn put_value(&mut self, value: &[u8])
+        ensures { Written (value_text value.now) self.old self.new }
+    {
+        for byte in value {
+            self.put(b" ");
+            self.put_byte(*byte);
+        }
+    }
+
+    // Writes the end of a line.
+    pub fn put_end(&mut self)
+        ensures { Written newline self.old self.new }
+    {
+        self.put(b"\n");
+    }
 }

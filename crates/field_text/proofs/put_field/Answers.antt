@@ -1,8 +1,7 @@
-use Rattle.std.proofs.Common.{Some, ap, ◌∙◌, rules}
+use Rattle.std.proofs.Common.{Some, ap, ◌∙◌}
 use Rattle.fields.specs.declared.FieldPlace.{FieldPlace}
 use Rattle.text_lines.specs.Text.{newline, withdrawn_text, field_text}
 use Rattle.text_lines.specs.Steps.{place_text}
-use Rattle.text_lines.proofs.Lay.{wrote_none}
 use Rattle.field_text.proofs.put_field.Goals as goal
 
 pub returns-in-Some-Raw : goal.returns-in-Some-Raw
@@ -17,5 +16,4 @@ returns-in-Some-Withdrawn c =
 
 pub returns-in-None : goal.returns-in-None
 unfolding place_text
-returns-in-None c =
-    let a = c.args in rw c.in-None.is (wrote_none a.at a.out.now (search rules))
+returns-in-None c = rw c.in-None.is c.put-in-None.ensures

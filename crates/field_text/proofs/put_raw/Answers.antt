@@ -9,8 +9,8 @@ returns c =
     wrote_then (search rules)
     (wrote_then (search rules)
     (wrote_then (search rules)
-    (wrote_then (search rules) c.put_decimal-to.ensures
-    c.put-to.ensures)
-    c.put_decimal-to-2.ensures)
-    c.put_value-to.ensures)
+    (wrote_then (search rules) c.put_decimal.ensures
+    c.put.ensures)
+    c.put_decimal-2.ensures)
+    c.put_value.ensures)
     c.put_end.ensures

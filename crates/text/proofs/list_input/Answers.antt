@@ -1,5 +1,5 @@
 use mathlib.Core.Path.{refl}
-use Rattle.text_lines.proofs.Lay.{wrote-same, listed}
+use Rattle.text_lines.proofs.Lay.{laid-same, listed}
 use Rattle.text.proofs.Room.{printed-fits}
 use Rattle.text_lines.proofs.Parts.{input-refused, input-read}
 use borrow.Author.Rules.{rules}
@@ -9,11 +9,8 @@ use Rattle.text.proofs.list_input.Goals as goal
 pub returns-then-input-ne4104 : goal.returns-then-input-ne4104
 returns-then-input-ne4104 c =
     let a = c.args in
-    listed (printed-fits a.input.now (λ i. omega (
-      arith,
-      c.shared_slice_known-1.given i,
-    )))
-    (wrote-same (input-refused a.input.now (search rules)) c.put_code.ensures)
+    let w = c.put_code.ensures.laid (omega arith) in
+    listed (printed-fits a.input.now (λ i. omega (arith, c.type_inv.input i))) (laid-same (input-refused a.input.now (search rules)) (search rules))
 
 pub returns : goal.returns
 returns c =

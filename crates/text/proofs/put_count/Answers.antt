@@ -14,5 +14,5 @@ returns c =
     let n = c.count_in-n in
     let e : n.result ≡ entry_count a.k (shown_as a.minor a.k a.section a.page.now) = n.ensures ∙
     count-shown a.minor a.k a.section a.page.now in
-    rw (← e) (wrote_then (search rules) (wrote_then (search rules) c.put_decimal-to.ensures
-    c.put_end-to.ensures) c.put_entries.ensures)
+    rw (← e) (wrote_then (search rules) (wrote_then (search rules) c.put_decimal.ensures
+    c.put_end.ensures) c.put_entries.ensures)

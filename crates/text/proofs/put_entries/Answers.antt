@@ -9,7 +9,7 @@ use Rattle.text.proofs.put_entries.Goals as goal
 
 pub loop-i-init : goal.loop-i-init
 unfolding joined
-loop-i-init c = let a = c.args in (search rules, wrote_none a.at a.out.now (search rules))
+loop-i-init c = let a = c.args in (search rules, wrote_none a.out.now)
 
 pub loop-i-preserved : goal.loop-i-preserved
 loop-i-preserved c =
@@ -17,7 +17,7 @@ loop-i-preserved c =
     let l = c.loop-i in (
       search rules,
       wrote-more (entry_text a.k (shown_as a.minor a.k a.section a.page.now)) l.i (search rules) l.invariant.1
-          c.put_entry-to.ensures,
+          c.put_entry.ensures,
     )
 
 pub returns : goal.returns

@@ -12,7 +12,7 @@ use Rattle.text.proofs.put_entry.Goals as goal
 
 pub loop-j-init : goal.loop-j-init
 unfolding joined
-loop-j-init c = let a = c.args in (search rules, wrote_none a.at a.out.now (search rules))
+loop-j-init c = let a = c.args in (search rules, wrote_none a.out.now)
 
 pub loop-j-preserved : goal.loop-j-preserved
 unfolding part_text
@@ -24,8 +24,8 @@ loop-j-preserved c =
     l.j a.section a.page.now _ c.word_in-w.ensures in (
       search rules,
       wrote-more (part_text a.k x a.i) l.j (search rules) l.invariant.1
-          (wrote_then (search rules) c.put_gap-to.ensures
-          (wrote-same (ap (word_text a.k l.j) e) c.put_word-to.ensures)),
+          (wrote_then (omega (arith, l.invariant.1.same)) c.put_gap.ensures
+          (wrote-same (ap (word_text a.k l.j) e) c.put_word.ensures)),
     )
 
 pub returns : goal.returns

@@ -7,6 +7,6 @@ pub returns : goal.returns
 unfolding head_text manifest_text read_as_text
 returns c =
     wrote_then (search rules) (wrote_then (search rules) (wrote_then (search rules)
-    (wrote_then (search rules) c.put-to.ensures
-    c.put_decimal-to.ensures) c.put-to-2.ensures)
-    c.put_decimal-to-2.ensures) c.put_end.ensures
+    (wrote_then (search rules) c.put.ensures
+    c.put_decimal.ensures) c.put-2.ensures)
+    c.put_decimal-2.ensures) c.put_end.ensures

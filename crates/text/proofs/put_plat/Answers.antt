@@ -6,5 +6,5 @@ use Rattle.text.proofs.put_plat.Goals as goal
 pub returns : goal.returns
 unfolding plat_text platform_text
 returns c =
-    wrote_then (search rules) (wrote_then (search rules) c.put-to.ensures
-    c.put_pointer-to.ensures) c.put_end.ensures
+    wrote_then (search rules) (wrote_then (search rules) c.put.ensures
+    c.put_pointer.ensures) c.put_end.ensures

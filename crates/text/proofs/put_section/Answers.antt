@@ -6,5 +6,5 @@ use Rattle.text.proofs.put_section.Goals as goal
 pub returns : goal.returns
 unfolding space section_text
 returns c =
-    wrote_then (search rules) (wrote_then (search rules) c.put_title-to.ensures
-    c.put-to.ensures) c.put_state.ensures
+    wrote_then (search rules) (wrote_then (search rules) c.put_title.ensures
+    c.put.ensures) c.put_state.ensures

@@ -10,7 +10,7 @@ use Rattle.text.proofs.put_sections.Goals as goal
 
 pub loop-k-init : goal.loop-k-init
 unfolding joined
-loop-k-init c = let a = c.args in (search rules, wrote_none a.at a.out.now (search rules))
+loop-k-init c = let a = c.args in (search rules, wrote_none a.out.now)
 
 pub loop-k-preserved : goal.loop-k-preserved
 loop-k-preserved c =
@@ -19,7 +19,7 @@ loop-k-preserved c =
     let e = section-seen a.view a.page.now l.k _ c.section_of-section.ensures in (
       search rules,
       wrote-more (section_text (seen a.view a.page.now)) l.k (search rules) l.invariant.1
-          (wrote-same e c.put_section-to.ensures),
+          (wrote-same e c.put_section.ensures),
     )
 
 pub returns : goal.returns

@@ -11,7 +11,7 @@ returns c =
     wrote-same (seen-listed a.view a.page.now)
     (wrote_then (search rules)
     (wrote_then (search rules)
-    (wrote_then (search rules) c.put_head-to.ensures
-    c.put_plat-to.ensures)
-    (wrote-same (ap fields_text c.fields_start-start.ensures.page_value) c.put_fields-to.ensures))
+    (wrote_then (search rules) c.put_head.ensures
+    c.put_plat.ensures)
+    (wrote-same (ap fields_text c.fields_start-start.ensures.page_value) c.put_fields.ensures))
     c.put_sections.ensures)

@@ -2,7 +2,7 @@ use Rattle.text_lines.specs.Text.{byte_text}
 use Rattle.text_lines.proofs.Lay.{wrote-same}
 use Rattle.text_lines.proofs.Numbers.{hex-put}
 use native.Mathlib.Omega.{arith}
-use Rattle.text_lines.proofs.put_byte.Goals as goal
+use Rattle.text_lines.proofs.Out.put_byte.Goals as goal
 
 pub returns : goal.returns
 unfolding byte_text

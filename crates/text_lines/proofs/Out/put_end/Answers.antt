@@ -1,5 +1,5 @@
 use Rattle.text_lines.specs.Text.{newline}
-use Rattle.text_lines.proofs.put_end.Goals as goal
+use Rattle.text_lines.proofs.Out.put_end.Goals as goal
 
 pub returns : goal.returns
 unfolding newline
