@@ -156,6 +156,7 @@ fn entry_fault(page: &[u8], minor: u64, k: u8, i: usize, at: usize) -> Result<()
 }
 
 // The first fault of `count` entries, in order.
+// A loop, here and below: as `(0..n).try_for_each(..)` the proof of `sections_fault` stayed open at the first call that fails (`returns`).
 fn entries_fault(page: &[u8], minor: u64, k: u8, at: usize, count: usize) -> Result<(), Fault>
     requires { at + size k count ≤ 0x1000 }
     ensures { result ≡ first_of count (entry_of minor k at page.now) }
@@ -170,6 +171,7 @@ fn entries_fault(page: &[u8], minor: u64, k: u8, at: usize, count: usize) -> Res
 }
 
 // The sum of the `n` words from `at` on, modulo 2^64.
+// Also in `entries`: there it asks that the words lie in the page, which a public function may not, and any other answer would be no plainer.
 fn sum_words(page: &[u8], at: usize, n: usize) -> u64
     requires { at + 8 * n ≤ 0x1000 }
     ensures { result ≡ sum_at at n page.now % 2 ^ 64 }
@@ -286,13 +288,9 @@ fn is_placed(base: u64, e: Edition, k: u8, count: u64, pointer: u64) -> bool
     requires { base ≤ 0x10_0000_0000_0000 }
     ensures { result ≡ in_range e.minor base k count pointer }
 {
-    if pointer < base + e.core_size() {
-        return false;
-    }
-    if base + words::PAGE_SIZE < pointer {
-        return false;
-    }
-    entries::fits(k as usize, count, base + words::PAGE_SIZE - pointer)
+    base + e.core_size() <= pointer
+        && pointer <= base + words::PAGE_SIZE
+        && entries::fits(k as usize, count, base + words::PAGE_SIZE - pointer)
 }
 
 // The first fault of the first `n` sections, each by itself.

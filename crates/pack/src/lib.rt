@@ -202,17 +202,13 @@ pub fn pack(page: &[u8], base: u64, target: &mut [u8]) -> Result<(), PackError>
     ensures by_index { (i : ℕ) → slice_index page.now i < 256 }
 {
     let mut core = [0u8; 112];
-    match reader::judge(page, base, 4, &mut core) {
-        Err(code) => Err(PackError::from(code)),
-        Ok(minor) => {
-            if 4 < minor {
-                return Err(PackError::Refused(Refusal::Version));
-            }
-            if target.len() != words::PAGE_LEN {
-                return Err(PackError::Target);
-            }
-            put_page(page, &core, base, Edition { minor }, target);
-            Ok(())
-        }
+    let minor = reader::judge(page, base, 4, &mut core)?;
+    if 4 < minor {
+        return Err(PackError::Refused(Refusal::Version));
     }
+    if target.len() != words::PAGE_LEN {
+        return Err(PackError::Target);
+    }
+    put_page(page, &core, base, Edition { minor }, target);
+    Ok(())
 }

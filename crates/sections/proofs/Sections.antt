@@ -1,6 +1,6 @@
 -- Laws of the rules of a page's sections. Assumes nothing.
 use Prim.Native.Nat.{ℕ, ◌+◌, ◌-◌, ◌*◌, ◌%◌, ◌^◌, ◌≤◌, ◌<◌}
-use mathlib.Core.Path.{◌≡◌, refl, sym, ◌∙◌}
+use mathlib.Core.Path.{◌≡◌, refl, sym, subst, ◌∙◌}
 use mathlib.Core.Bool.{Bool, true, false, cond}
 use mathlib.Core.List.{List, []}
 use native.Mathlib.Omega.{arith}
@@ -8,7 +8,7 @@ use native.Mathlib.Decide.{dec_le}
 use lib.Dec.{leb, eqb}
 use lib.ListN.{length, drop, length-drop}
 use borrow.Author.Tests.{leb-true, ltb-true, eqb-true, le-leb, lt-leb, lt-ltb, le-ltb, eq-eqb, ne_eqb}
-use Rattle.words.specs.Tests.{Yes, both, either}
+use Rattle.words.specs.Tests.{Yes, both, either, every}
 use Rattle.words.specs.Word.{part, word_at}
 use Rattle.words.proofs.Tests.{both_l, both_r, both_of, either-cases, every-at, every_of, every-none, every_more, every-not}
 use Rattle.versions.specs.Edition.{section_count, core}
@@ -22,7 +22,9 @@ use Rattle.sections.specs.Steps.{plat_end, ok_at, ok_to, end_of, apart_at, clear
 use Rattle.fields.specs.Fields.{Scanned, broken, ended, bare, is_ended, taken, scan_of}
 use Rattle.fields.specs.Steps.{end_told}
 use Rattle.fields.proofs.Same.{taken-room}
-use Rattle.std.proofs.Common.{Option, Some, None}
+use Rattle.std.proofs.Common.{Option, Some, None, MatchBool, HoldsAt, get_or}
+use Rattle.std.specs.List.{AllWithin, range_with_len}
+use Rattle.std.proofs.lemmas.List.FromFn.{length-range_with_len, get_or-range_with_len}
 
 -- ---- base and length of a page
 pub placed : (base n : ℕ) → Yes (place_ok base n) → (n ≡ 4096) × (0 < base) × (base % 4096 ≡ 0) × (base ≤ 2 ^ 52 - 4096)
@@ -135,19 +137,6 @@ module _ (w e base k : ℕ) (page : List ℕ) where
 
 -- ---- all sections of an edition, each by itself
 module _ (w e base : ℕ) (page : List ℕ) where
-  pub ok-none : ok_to w e base 0 page ≡ true
-  unfolding ok_to
-  ok-none = every-none (λ k. ok_at w e base k page)
-
-  -- one more section, given the code's result for it
-  pub ok-more : (n : ℕ) → ok_to w e base n page ≡ true → (z : Bool) → z ≡ ok_at w e base n page → z ≡ true → ok_to w e base (n + 1) page ≡ true
-  unfolding ok_to
-  ok-more n p z c q = every_more n (λ k. ok_at w e base k page) p (sym c ∙ q)
-
-  pub ok-not : (n k : ℕ) → k < n → (z : Bool) → z ≡ ok_at w e base k page → z ≡ false → false ≡ ok_to w e base n page
-  unfolding ok_to
-  ok-not n k h z c q = sym (every-not n (λ k. ok_at w e base k page) k h (sym c ∙ q))
-
   pub ok-each : (n k : ℕ) → ok_to w e base n page ≡ true → k < n → ok_at w e base k page ≡ true
   unfolding ok_to
   ok-each n k h l = every-at n (λ k. ok_at w e base k page) h k l
@@ -185,18 +174,6 @@ module _ (page : List ℕ) where
 
 -- ---- the fields and the arrays
 module _ (from to : ℕ) (page : List ℕ) where
-  pub clear-from-none : clear_from from to 0 page ≡ true
-  unfolding clear_from
-  clear-from-none = every-none (λ k. clear_at from to k page)
-
-  pub clear-from-more : (k : ℕ) → clear_from from to k page ≡ true → clear_at from to k page ≡ true → clear_from from to (k + 1) page ≡ true
-  unfolding clear_from
-  clear-from-more k p q = every_more k (λ k. clear_at from to k page) p q
-
-  pub clear-from-not : (n k : ℕ) → k < n → clear_at from to k page ≡ false → clear_from from to n page ≡ false
-  unfolding clear_from
-  clear-from-not n k h q = every-not n (λ k. clear_at from to k page) k h q
-
   pub clear-from-0 : (n : ℕ) → to ≡ 0 → clear_from from to n page ≡ true
   unfolding clear_from clear_at either
   clear-from-0 n z = every_of n (λ k. clear_at from to k page) (λ k l. rw (le-leb to (pointer_at k page) (omega arith)))
@@ -443,3 +420,16 @@ module _ (w e base k : ℕ) (page : List ℕ) (z : Bool) (c : z ≡ ok_at w e ba
           r ≡ both (place_ok base (length page)) (stays_at w e base k from to page)
       unfolding both
       told-stays g r m = rw v (m ∙ sym (stays-clear w e base k from to page (sym c ∙ h) (rw (← cp, ← cq) (sym cy ∙ g))))
+
+-- ---- a test of each number below n, made by `all` over the range
+pub every-ran : (f : ℕ → Bool) (n : ℕ) (r : Bool)
+    → MatchBool r (AllWithin (λ k. f k ≡ true) (range_with_len 0 n) 0 (length (range_with_len 0 n))) ((k : ℕ) × (k < length (range_with_len 0 n)) × HoldsAt (λ j. f j ≡ false) (range_with_len 0 n) k)
+    → r ≡ every n f
+every-ran f n true h =
+    sym (every_of n f (λ i l.
+    let e : get_or (range_with_len 0 n) i 0 ≡ i = get_or-range_with_len 0 n i 0 l ∙ omega arith in
+    subst (λ x. f x ≡ true) e (h i 0 (omega arith) (rw (length-range_with_len 0 n) l))))
+every-ran f n false h =
+    let l : h.0 < n = rw (length-range_with_len 0 n) at h.1 in
+    let e : get_or (range_with_len 0 n) h.0 0 ≡ h.0 = get_or-range_with_len 0 n h.0 0 l ∙ omega arith in
+    sym (every-not n f h.0 l (subst (λ x. f x ≡ false) e (h.2 0)))

@@ -31,19 +31,7 @@ pub const SECTION_BYTES: usize = 24;
 pub fn place_ok(base: u64, n: usize) -> bool
     ensures { result ≡ place_ok base n }
 {
-    if n != words::PAGE_LEN {
-        return false;
-    }
-    if base == 0 {
-        return false;
-    }
-    if base % words::PAGE_SIZE != 0 {
-        return false;
-    }
-    if words::BASE_MOST < base {
-        return false;
-    }
-    true
+    n == words::PAGE_LEN && base != 0 && base % words::PAGE_SIZE == 0 && base <= words::BASE_MOST
 }
 
 // The version: 4 bytes at offset 0.
@@ -104,16 +92,7 @@ fn plat_end(page: &[u8], base: u64, e: Edition, size: u64, plat: u64) -> Option<
 pub fn is_nothing(count: u64, pointer: u64, check: u64) -> bool
     ensures { result ≡ nothing count pointer check }
 {
-    if count != 0 {
-        return false;
-    }
-    if pointer != 0 {
-        return false;
-    }
-    if check != 0 {
-        return false;
-    }
-    true
+    count == 0 && pointer == 0 && check == 0
 }
 
 // Whether section `k` by itself keeps its rule, on a page of minor `minor` read as edition `e`; `count`, `pointer` and `check` are its three
@@ -158,15 +137,17 @@ fn sections_ok(
         × (size ≡ core e.minor) × (size ≤ 112) × (n ≤ 4) }
     ensures { result ≡ ok_to minor e.minor base n page.now }
 {
-    for k in 0..n {
-        let count = count_at(copied, k);
-        let pointer = pointer_at(copied, k);
-        let check = check_at(copied, k);
-        if !section_ok(page, base, minor, e, size, k, count, pointer, check) {
-            return false;
-        }
-    }
-    true
+    (0..n).all(
+        |k|
+            requires { (length page.now ≡ 4096) × (Copied copied.now page.now) × (base ≤ 0x10_0000_0000_0000)
+                × (size ≡ core e.minor) × (size ≤ 112) × (k < 4) }
+        {
+            let count = count_at(copied, k);
+            let pointer = pointer_at(copied, k);
+            let check = check_at(copied, k);
+            section_ok(page, base, minor, e, size, k, count, pointer, check)
+        },
+    )
 }
 
 // The address after the array of section `k`.
@@ -183,17 +164,12 @@ pub fn is_clear(page: &[u8], from: u64, to: u64, k: u8) -> bool
     ensures { result ≡ clear_at from to k page.now }
 {
     let pointer = pointer_at(page, k);
-    if to <= pointer {
-        return true;
-    }
-    if from < pointer {
-        return false;
-    }
-    entries::fits(k as usize, count_at(page, k), from - pointer)
+    to <= pointer || pointer <= from && entries::fits(k as usize, count_at(page, k), from - pointer)
 }
 
 // Whether no two of the first `n` arrays overlap (S5). Compares the pairs in turn, up to the first overlap, and reads section `i` once for
 // all its pairs. An empty section has pointer and count 0 and overlaps none.
+// Loops with a label: docs/DECISIONS.md, "Forms", names this form for this function.
 fn all_apart(page: &[u8], n: u8) -> bool
     requires { (n ≤ 4) × ((k : ℕ) → k < n → end_of k page.now < 0x1_0000_0000_0000_0000) }
     ensures { result ≡ apart_to n page.now }
@@ -216,15 +192,7 @@ fn all_apart(page: &[u8], n: u8) -> bool
 fn all_clear(page: &[u8], from: u64, to: u64, n: u8) -> bool
     ensures { result ≡ clear_from from to n page.now }
 {
-    if to == 0 {
-        return true;
-    }
-    for k in 0..n {
-        if !is_clear(page, from, to, k) {
-            return false;
-        }
-    }
-    true
+    to == 0 || (0..n).all(|k| is_clear(page, from, to, k))
 }
 
 // Whether a page of minor `minor`, read as edition `e`, keeps R1, R2 and all rules of its fields and sections (-7).

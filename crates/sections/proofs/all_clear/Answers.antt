@@ -1,32 +1,18 @@
-use Rattle.sections.proofs.Sections.{clear-from-none, clear-from-more, clear-from-not, clear-from-0}
-use borrow.Author.Rules.{rules}
-use mathlib.Core.Path.{◌≡◌, sym, ◌∙◌}
-use native.Mathlib.Omega.{arith}
+use Rattle.std.proofs.Common.{◌≡◌, refl, true, false, sym, ◌∙◌, rules, tests, arith}
+use Rattle.std.proofs.lemmas.Iterator.{cases_from_all, YieldsList-from_range}
+use borrow.Author.Tests.{eq-eqb}
+use Rattle.sections.specs.Steps.{clear_at, clear_from}
+use Rattle.sections.proofs.Sections.{clear-from-0, every-ran}
 use Rattle.sections.proofs.all_clear.Goals as goal
 
 pub returns-then-to-eq0 : goal.returns-then-to-eq0
-returns-then-to-eq0 c = let a = c.args in sym (clear-from-0 a.from a.to a.page.now a.n (search rules))
+returns-then-to-eq0 c =
+    let a = c.args in eq-eqb a.to 0 c.if-to-eq0.true ∙ sym (clear-from-0 a.from a.to a.page.now a.n c.if-to-eq0.true)
 
-pub loop-k-init : goal.loop-k-init
-loop-k-init c = let a = c.args in (search rules, clear-from-none a.from a.to a.page.now)
-
-pub returns-then-not-is_clear : goal.returns-then-not-is_clear
-returns-then-not-is_clear c =
+pub returns-else-to-eq0 : goal.returns-else-to-eq0
+unfolding clear_from
+returns-else-to-eq0 c =
     let a = c.args in
-    let l = c.loop-k in
-    sym (clear-from-not a.from a.to a.page.now a.n l.k (omega arith)
-    (sym c.is_clear.ensures ∙ c.if-not-is_clear.true))
-
-pub loop-k-preserved : goal.loop-k-preserved
-loop-k-preserved c =
-    let a = c.args in
-    let l = c.loop-k in (
-      search rules,
-      clear-from-more a.from a.to a.page.now l.k l.invariant.1
-          (sym c.is_clear.ensures ∙ c.if-not-is_clear.false),
-    )
-
-pub returns : goal.returns
-returns c =
-    let a = c.args in
-    let l = c.loop-k in let e : l.k ≡ a.n = omega arith in rw (← e) (sym l.invariant.1)
+    every-ran (λ k. clear_at a.from a.to k a.page.now) a.n _
+    (cases_from_all _ _ _ (λ k. clear_at a.from a.to k a.page.now ≡ true) (λ k. clear_at a.from a.to k a.page.now ≡ false) c.all.ensures.ran
+    (YieldsList-from_range 0 a.n a.n refl (omega arith)) (λ x q k. search (rules, tests)) (λ x q k. search (rules, tests)))

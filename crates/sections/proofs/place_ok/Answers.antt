@@ -1,43 +1,35 @@
+use Rattle.std.proofs.Common.{◌≡◌, ◌%◌, ◌∙◌, sym, true, false, eqb, arith}
+use mathlib.Core.Bool.{false≢true}
+use mathlib.Core.Logic.{⊎_elim}
+use borrow.Author.Rules.{rules}
+use borrow.Author.Tests.{eq-eqb, ne_eqb, lt-ltb, le-ltb}
 use Rattle.words.specs.Tests.{both}
 use Rattle.sections.specs.Page.{place_ok}
-use Prim.Native.Nat.{◌-◌, ◌%◌, ◌^◌}
-use borrow.Author.Rules.{rules}
-use borrow.Author.Tests.{eq-eqb, ne_eqb, lt-leb, le-leb, lt-ltb, le-ltb}
-use native.Mathlib.Omega.{arith}
+use Rattle.sections.proofs.place_ok.Goals.{then-n-eq-PAGE_LEN, else-n-eq-PAGE_LEN, then-base-ne0, else-base-ne0}
 use Rattle.sections.proofs.place_ok.Goals as goal
-
-pub returns-then-n-ne-PAGE_LEN : goal.returns-then-n-ne-PAGE_LEN
-unfolding place_ok both
-returns-then-n-ne-PAGE_LEN c = let a = c.args in simp (ne_eqb a.n 4096 (search rules))
 
 pub returns-then-base-eq0 : goal.returns-then-base-eq0
 unfolding place_ok both
-returns-then-base-eq0 c = let a = c.args in simp (eq-eqb a.n 4096 (search rules), le-ltb (0) a.base (search rules))
-
-pub returns-then-base-ne0 : goal.returns-then-base-ne0
-unfolding place_ok both
-returns-then-base-ne0 c =
+returns-then-base-eq0 c =
     let a = c.args in
-    simp (eq-eqb a.n 4096 (search rules), lt-ltb (0) a.base (search rules), ne_eqb (a.base % 4096) 0 (search rules))
+    elim c.if-base-ne0.branch [
+      | then-base-ne0 w ↦
+          let t = w.if-base-ne0.true in
+          let m : eqb (a.base % 4096) 0 ≡ true = sym w.value-is ∙ c.if-base-eq0.true in
+          simp (eq-eqb a.n 4096 t.0, lt-ltb 0 a.base (omega (arith, t.1)), m)
+      | else-base-ne0 w ↦ absurd (false≢true (sym w.if-base-ne0.false-raw ∙ sym w.value-is ∙ c.if-base-eq0.true))
+    ]
 
-pub returns-then-base-gt-BASE_MOST : goal.returns-then-base-gt-BASE_MOST
+pub returns-else-base-eq0 : goal.returns-else-base-eq0
 unfolding place_ok both
-returns-then-base-gt-BASE_MOST c =
+returns-else-base-eq0 c =
     let a = c.args in
-    simp (
-      eq-eqb a.n 4096 (search rules),
-      lt-ltb (0) a.base (search rules),
-      eq-eqb (a.base % 4096) 0 (search rules),
-      lt-leb a.base (2 ^ 52 - 4096) (omega arith),
-    )
-
-pub returns : goal.returns
-unfolding place_ok both
-returns c =
-    let a = c.args in
-    simp (
-      eq-eqb a.n 4096 (search rules),
-      lt-ltb (0) a.base (search rules),
-      eq-eqb (a.base % 4096) 0 (search rules),
-      le-leb a.base (2 ^ 52 - 4096) (omega arith),
-    )
+    elim c.if-base-ne0.branch [
+      | then-base-ne0 w ↦
+          let t = w.if-base-ne0.true in
+          let m : eqb (a.base % 4096) 0 ≡ false = sym w.value-is ∙ c.if-base-eq0.false in
+          c.if-base-eq0.false ∙ simp (eq-eqb a.n 4096 t.0, lt-ltb 0 a.base (omega (arith, t.1)), m)
+      | else-base-ne0 w ↦
+          w.value-is ∙ w.if-base-ne0.false-raw ∙
+          ⊎_elim (λ n. simp (eq-eqb a.n 4096 n.0, le-ltb 0 a.base (search rules))) (λ m. simp (ne_eqb a.n 4096 m)) w.if-base-ne0.either
+    ]

@@ -1,44 +1,16 @@
-use Rattle.sections.proofs.Core.{core-count, core-pointer, core-check}
-use Rattle.sections.proofs.Sections.{ok-none, ok-more, ok-not}
-use borrow.Author.Rules.{rules}
-use mathlib.Core.Path.{◌≡◌, sym, ◌∙◌}
-use native.Mathlib.Omega.{arith}
+use Rattle.std.proofs.Common.{◌≡◌, refl, true, false, rules, tests, arith}
+use Rattle.std.proofs.lemmas.Iterator.{cases_from_all, YieldsList-from_range, serves_from_Range}
+use Rattle.sections.specs.Steps.{ok_at, ok_to}
+use Rattle.sections.proofs.Sections.{every-ran}
 use Rattle.sections.proofs.sections_ok.Goals as goal
 
-pub loop-k-init : goal.loop-k-init
-loop-k-init c = let a = c.args in (search rules, ok-none a.minor a.e.minor a.base a.page.now)
-
-pub section_ok-requires : goal.section_ok-requires
-section_ok-requires c =
-    let a = c.args in
-    let p = c.requires in
-    let k = c.loop-k.k in (
-      p.0,
-      p.2,
-      p.3,
-      p.4,
-      c.count_at-count.ensures ∙ core-count a.page.now a.copied.now p.1 k (omega arith),
-      c.pointer_at-pointer.ensures ∙ core-pointer a.page.now a.copied.now p.1 k (omega arith),
-      c.check_at-check.ensures ∙ core-check a.page.now a.copied.now p.1 k (omega arith),
-    )
-
-pub returns-then-not-section_ok : goal.returns-then-not-section_ok
-returns-then-not-section_ok c =
-    let a = c.args in
-    let l = c.loop-k in
-    ok-not a.minor a.e.minor a.base a.page.now a.n l.k (omega arith) _ c.section_ok.ensures
-    (c.if-not-section_ok.true)
-
-pub loop-k-preserved : goal.loop-k-preserved
-loop-k-preserved c =
-    let a = c.args in
-    let l = c.loop-k in (
-      search rules,
-      ok-more a.minor a.e.minor a.base a.page.now l.k l.invariant.1 _ c.section_ok.ensures
-          (c.if-not-section_ok.false),
-    )
+pub all-requires-clause-callable : goal.all-requires-clause-callable
+all-requires-clause-callable c = serves_from_Range (λ x q k. search (rules, tests)) (λ x low high. let p = c.requires in (p.0, p.1, p.2, p.3, p.4, omega arith))
 
 pub returns : goal.returns
+unfolding ok_to
 returns c =
     let a = c.args in
-    let l = c.loop-k in let e : l.k ≡ a.n = omega arith in rw (← e) (sym l.invariant.1)
+    every-ran (λ k. ok_at a.minor a.e.minor a.base k a.page.now) a.n _
+    (cases_from_all _ _ _ (λ k. ok_at a.minor a.e.minor a.base k a.page.now ≡ true) (λ k. ok_at a.minor a.e.minor a.base k a.page.now ≡ false) c.all.ensures.ran
+    (YieldsList-from_range 0 a.n a.n refl (omega arith)) (λ x q k. search (rules, tests)) (λ x q k. search (rules, tests)))
