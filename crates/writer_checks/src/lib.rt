@@ -1,7 +1,7 @@
 // The writer's checks of a description, W3 to W5: whole entries and valid fields, no entry of a section after the edition, and enough room.
 #![tactic(auto)]
 
-ghost use Rattle.std.specs.Prelude.{◌≡◌, ◌*◌, ◌%◌, ◌^◌, ◌≤◌, length, take, if◌then◌else◌, ◌≢◌, nat_le};
+ghost use Rattle.std.specs.Prelude.{◌≡◌, [], ◌∷◌, ◌*◌, ◌%◌, ◌^◌, ◌≤◌, length, take, if◌then◌else◌, ◌≢◌, nat_le};
 ghost use Rattle.std.specs.Bool.{then_some};
 ghost use Rattle.entries.specs.Entry.{entries_ok, sum};
 ghost use Rattle.fields.specs.Fields.{scan_of, describable};
@@ -19,6 +19,29 @@ pub struct Totals {
     pub console: u64,
     pub ncoh: u64,
     pub coh: u64,
+}
+
+// The four lists of a description, in section order.
+#[derive(Clone, Copy)]
+pub struct Lists<'a> {
+    pub dram: &'a [u64],
+    pub console: &'a [u64],
+    pub ncoh: &'a [u64],
+    pub coh: &'a [u64],
+}
+
+impl<'a> Lists<'a> {
+    // The four lengths, in words.
+    fn lens(self) -> [usize; 4]
+        ensures { result ≡ length self.entry.dram.now ∷ length self.entry.console.now ∷ length self.entry.ncoh.now ∷ length self.entry.coh.now ∷ [] }
+    {
+        [
+            self.dram.len(),
+            self.console.len(),
+            self.ncoh.len(),
+            self.coh.len(),
+        ]
+    }
 }
 
 // Sums and checks the first `count` banks or regions of `words` in one loop: their sum if each keeps its rule. `k` is their section, not 1.
@@ -83,21 +106,15 @@ fn sum_list(words: &[u64], minor: u64, k: usize) -> Option<u64>
 
 // W3: checks and sums all four lists, including those of sections after the edition. `None` if a list is not a whole number of entries or an entry
 // breaks its rule.
-pub fn sum_lists(
-    minor: u64,
-    dram: &[u64],
-    console: &[u64],
-    ncoh: &[u64],
-    coh: &[u64],
-) -> Option<Totals>
-    ensures value { result ≡ sums_of minor dram.now console.now ncoh.now coh.now }
-    ensures result_value { sums_number result ≡ (if lists_ok minor (four_lists dram.now console.now ncoh.now coh.now) then 0 else 3) }
+pub fn sum_lists(minor: u64, lists: Lists) -> Option<Totals>
+    ensures value { result ≡ sums_of minor lists.entry.dram.now lists.entry.console.now lists.entry.ncoh.now lists.entry.coh.now }
+    ensures result_value { sums_number result ≡ (if lists_ok minor (four_lists lists.entry.dram.now lists.entry.console.now lists.entry.ncoh.now lists.entry.coh.now) then 0 else 3) }
 {
     Some(Totals {
-        dram: sum_list(dram, minor, 0)?,
-        console: sum_list(console, minor, 1)?,
-        ncoh: sum_list(ncoh, minor, 2)?,
-        coh: sum_list(coh, minor, 3)?,
+        dram: sum_list(lists.dram, minor, 0)?,
+        console: sum_list(lists.console, minor, 1)?,
+        ncoh: sum_list(lists.ncoh, minor, 2)?,
+        coh: sum_list(lists.coh, minor, 3)?,
     })
 }
 
@@ -121,17 +138,10 @@ fn empty_from(from: usize, n: [usize; 4]) -> bool
 }
 
 // W4: whether the list of every section after the edition is empty.
-pub fn later_sections_empty(
-    e: Edition,
-    dram: &[u64],
-    console: &[u64],
-    ncoh: &[u64],
-    coh: &[u64],
-) -> bool
-    ensures { result ≡ later_sections_empty e.minor (four_lists dram.now console.now ncoh.now coh.now) }
+pub fn later_sections_empty(e: Edition, lists: Lists) -> bool
+    ensures { result ≡ later_sections_empty e.minor (four_lists lists.entry.dram.now lists.entry.console.now lists.entry.ncoh.now lists.entry.coh.now) }
 {
-    let n = [dram.len(), console.len(), ncoh.len(), coh.len()];
-    empty_from(e.sections() as usize, n)
+    empty_from(e.sections() as usize, lists.lens())
 }
 
 // Whether n[0] + n[1] + n[2] + n[3] <= room. Subtracts, because the sum could overflow.
@@ -160,15 +170,8 @@ fn marked_size(fields: &[u8]) -> usize
 }
 
 // W5: whether core, arrays and fields fit into 4,096 bytes.
-pub fn room_ok(
-    e: Edition,
-    dram: &[u64],
-    console: &[u64],
-    ncoh: &[u64],
-    coh: &[u64],
-    fields: &[u8],
-) -> bool
-    ensures { result ≡ nat_le (used e.minor (description_of dram.now console.now ncoh.now coh.now fields.now)) 4096 }
+pub fn room_ok(e: Edition, lists: Lists, fields: &[u8]) -> bool
+    ensures { result ≡ nat_le (used e.minor (description_of lists.entry.dram.now lists.entry.console.now lists.entry.ncoh.now lists.entry.coh.now fields.now)) 4096 }
 {
     if words::PAGE_LEN < fields.len() {
         return false;
@@ -179,6 +182,5 @@ pub fn room_ok(
         return false;
     }
     let room = (left - marked) / 8;
-    let n = [dram.len(), console.len(), ncoh.len(), coh.len()];
-    fits(room, n)
+    fits(room, lists.lens())
 }

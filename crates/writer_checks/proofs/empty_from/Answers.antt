@@ -1,5 +1,5 @@
 use Rattle.std.proofs.Common.{sym, arith, rules}
-use Rattle.writer_checks.proofs.Lists.{late-none, late-more, late-not, late-end}
+use Rattle.writer_checks.proofs.Described.{late-none, late-more, late-not, late-end}
 use Rattle.writer_checks.proofs.empty_from.Goals as goal
 
 pub loop-k-init : goal.loop-k-init
