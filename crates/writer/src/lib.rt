@@ -5,7 +5,7 @@ ghost use Rattle.std.specs.Prelude.{◌≡◌, ◌+◌, ◌*◌, ◌%◌, ◌^�
 ghost use Rattle.words.specs.Tests.{Yes};
 ghost use Rattle.words.specs.Word.{bytes_of, splice, laid};
 ghost use Rattle.entries.specs.Entry.{sum};
-ghost use Rattle.writer_checks.specs.Description.{four_lists, description_of, used};
+ghost use Rattle.writer_checks.specs.Description.{description_of, lists_of, described, used};
 ghost use Rattle.writer_checks.specs.Fast.{totals_of};
 ghost use Rattle.writer_rules.specs.Write.{descriptor, plat_word, core_words, page_of, description_fits};
 ghost use Rattle.writer_rules.specs.Wrote.{write_lists, made_by, page_after};
@@ -68,7 +68,7 @@ fn put_fields(page: &mut [u8], at: usize, fields: &[u8]) -> usize
 // The platform pointer: the address after core and arrays, or 0 if there are no fields.
 fn plat_pointer(base: u64, e: Edition, lists: Lists, fields: &[u8]) -> u64
     requires { (base ≤ 0x10_0000_0000_0000) × (length lists.dram.now + length lists.console.now + length lists.ncoh.now + length lists.coh.now ≤ 512) }
-    ensures { result ≡ plat_word base e.minor (description_of lists.entry.dram.now lists.entry.console.now lists.entry.ncoh.now lists.entry.coh.now fields.now) }
+    ensures { result ≡ plat_word base e.minor (described lists.entry fields.now) }
 {
     if fields.len() == 0 {
         return 0;
@@ -84,7 +84,7 @@ fn put_core(base: u64, e: Edition, totals: Totals, lists: Lists, fields: &[u8], 
         × (length lists.dram.now + length lists.console.now + length lists.ncoh.now + length lists.coh.now ≤ 512)
         × (totals ≡ totals_of lists.dram.now lists.console.now lists.ncoh.now lists.coh.now) }
     ensures { page.new ≡ splice 0
-        (bytes_of (core_words base e.minor (description_of lists.entry.dram.now lists.entry.console.now lists.entry.ncoh.now lists.entry.coh.now fields.now)))
+        (bytes_of (core_words base e.minor (described lists.entry fields.now)))
         page.old }
 {
     let plat = plat_pointer(base, e, lists, fields);
@@ -101,7 +101,7 @@ fn put_core(base: u64, e: Edition, totals: Totals, lists: Lists, fields: &[u8], 
 fn put_arrays(at: usize, lists: Lists, page: &mut [u8]) -> usize
     requires { (at ≤ 112) × (length lists.dram.now + length lists.console.now + length lists.ncoh.now + length lists.coh.now ≤ 512) }
     ensures { (result ≡ at + 8 * length lists.entry.dram.now + 8 * length lists.entry.console.now + 8 * length lists.entry.ncoh.now + 8 * length lists.entry.coh.now)
-        × (page.new ≡ arrays_on at (four_lists lists.entry.dram.now lists.entry.console.now lists.entry.ncoh.now lists.entry.coh.now) page.old) }
+        × (page.new ≡ arrays_on at (lists_of lists.entry) page.old) }
 {
     let second = put_array(page, at, lists.dram);
     let third = put_array(page, second, lists.console);
@@ -112,9 +112,9 @@ fn put_arrays(at: usize, lists: Lists, page: &mut [u8]) -> usize
 // Makes the whole page in address order: core, arrays, fields, then zeros.
 fn put_page(base: u64, e: Edition, totals: Totals, lists: Lists, fields: &[u8], page: &mut [u8])
     requires { (base ≤ 0x10_0000_0000_0000) × (length page.old ≡ 4096)
-        × (used e.minor (description_of lists.dram.now lists.console.now lists.ncoh.now lists.coh.now fields.now) ≤ 4096)
+        × (used e.minor (described lists fields.now) ≤ 4096)
         × (totals ≡ totals_of lists.dram.now lists.console.now lists.ncoh.now lists.coh.now) }
-    ensures { page.new ≡ page_of base e.minor (description_of lists.entry.dram.now lists.entry.console.now lists.entry.ncoh.now lists.entry.coh.now fields.now) }
+    ensures { page.new ≡ page_of base e.minor (described lists.entry fields.now) }
 {
     put_core(base, e, totals, lists, fields, page);
     let at = e.core_size() as usize;

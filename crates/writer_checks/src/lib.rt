@@ -5,7 +5,7 @@ ghost use Rattle.std.specs.Prelude.{◌≡◌, [], ◌∷◌, ◌*◌, ◌%◌, 
 ghost use Rattle.std.specs.Bool.{then_some};
 ghost use Rattle.entries.specs.Entry.{entries_ok, sum};
 ghost use Rattle.fields.specs.Fields.{scan_of, describable};
-ghost use Rattle.writer_checks.specs.Description.{four_lists, description_of, list_ok, lists_ok, later_sections_empty, with_mark, used};
+ghost use Rattle.writer_checks.specs.Description.{lists_of, described, list_ok, lists_ok, later_sections_empty, with_mark, used};
 ghost use Rattle.writer_checks.specs.Fast.{sums_of, sums_number};
 ghost use Rattle.writer_checks.specs.Steps.{sum_to, late_to};
 
@@ -108,7 +108,7 @@ fn sum_list(words: &[u64], minor: u64, k: usize) -> Option<u64>
 // breaks its rule.
 pub fn sum_lists(minor: u64, lists: Lists) -> Option<Totals>
     ensures value { result ≡ sums_of minor lists.entry.dram.now lists.entry.console.now lists.entry.ncoh.now lists.entry.coh.now }
-    ensures result_value { sums_number result ≡ (if lists_ok minor (four_lists lists.entry.dram.now lists.entry.console.now lists.entry.ncoh.now lists.entry.coh.now) then 0 else 3) }
+    ensures result_value { sums_number result ≡ (if lists_ok minor (lists_of lists.entry) then 0 else 3) }
 {
     Some(Totals {
         dram: sum_list(lists.dram, minor, 0)?,
@@ -139,7 +139,7 @@ fn empty_from(from: usize, n: [usize; 4]) -> bool
 
 // W4: whether the list of every section after the edition is empty.
 pub fn later_sections_empty(e: Edition, lists: Lists) -> bool
-    ensures { result ≡ later_sections_empty e.minor (four_lists lists.entry.dram.now lists.entry.console.now lists.entry.ncoh.now lists.entry.coh.now) }
+    ensures { result ≡ later_sections_empty e.minor (lists_of lists.entry) }
 {
     empty_from(e.sections() as usize, lists.lens())
 }
@@ -171,7 +171,7 @@ fn marked_size(fields: &[u8]) -> usize
 
 // W5: whether core, arrays and fields fit into 4,096 bytes.
 pub fn room_ok(e: Edition, lists: Lists, fields: &[u8]) -> bool
-    ensures { result ≡ nat_le (used e.minor (description_of lists.entry.dram.now lists.entry.console.now lists.entry.ncoh.now lists.entry.coh.now fields.now)) 4096 }
+    ensures { result ≡ nat_le (used e.minor (described lists.entry fields.now)) 4096 }
 {
     if words::PAGE_LEN < fields.len() {
         return false;
