@@ -67,7 +67,8 @@ fn put_fields(page: &mut [u8], at: usize, fields: &[u8]) -> usize
 
 // The platform pointer: the address after core and arrays, or 0 if there are no fields.
 fn plat_pointer(base: u64, e: Edition, lists: Lists, fields: &[u8]) -> u64
-    requires { (base ≤ 0x10_0000_0000_0000) × (length lists.dram.now + length lists.console.now + length lists.ncoh.now + length lists.coh.now ≤ 512) }
+    requires { (base ≤ 0x10_0000_0000_0000)
+        × (length lists.dram.now + length lists.console.now + length lists.ncoh.now + length lists.coh.now ≤ 512) }
     ensures { result ≡ plat_word base e.minor (described lists.entry fields.now) }
 {
     if fields.len() == 0 {
@@ -100,7 +101,8 @@ fn put_core(base: u64, e: Edition, totals: Totals, lists: Lists, fields: &[u8], 
 // Writes the arrays after the core, in section order. Returns the offset after them.
 fn put_arrays(at: usize, lists: Lists, page: &mut [u8]) -> usize
     requires { (at ≤ 112) × (length lists.dram.now + length lists.console.now + length lists.ncoh.now + length lists.coh.now ≤ 512) }
-    ensures { (result ≡ at + 8 * length lists.entry.dram.now + 8 * length lists.entry.console.now + 8 * length lists.entry.ncoh.now + 8 * length lists.entry.coh.now)
+    ensures { (result ≡ at + 8 * length lists.entry.dram.now + 8 * length lists.entry.console.now
+        + 8 * length lists.entry.ncoh.now + 8 * length lists.entry.coh.now)
         × (page.new ≡ arrays_on at (lists_of lists.entry) page.old) }
 {
     let second = put_array(page, at, lists.dram);
@@ -125,6 +127,7 @@ fn put_page(base: u64, e: Edition, totals: Totals, lists: Lists, fields: &[u8], 
 
 // Writes the manifest of an edition for a base into the lent page: core, arrays and fields, and zero everywhere else. If a check refuses,
 // in the order of WR3, the page stays unchanged. The promise that the lists hold 64-bit words is a premise of `written` in demand 3.
+// The lists come one by one: tried as `Lists`, and `yes` didn't close, since only of a parameter that is a slice the proof knows that its words fit.
 pub fn write(
     base: u64,
     edition: u64,
@@ -153,16 +156,16 @@ pub fn write(
         ncoh,
         coh,
     };
-    let sums = writer_checks::sum_lists(edition, lists);
+    let sums = lists.sums(edition);
     let totals = sums.ok_or(WriteError::BadEntry)?;
     if !writer_checks::fields_ok(fields) {
         return Err(WriteError::BadEntry);
     }
     let e = Edition { minor: edition };
-    if !writer_checks::later_sections_empty(e, lists) {
+    if !lists.later_sections_empty(e) {
         return Err(WriteError::SectionAfterEdition);
     }
-    if !writer_checks::room_ok(e, lists, fields) {
+    if !lists.room_ok(e, fields) {
         return Err(WriteError::TooLong);
     }
     put_page(base, e, totals, lists, fields, page);

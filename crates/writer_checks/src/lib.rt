@@ -30,20 +30,6 @@ pub struct Lists<'a> {
     pub coh: &'a [u64],
 }
 
-impl<'a> Lists<'a> {
-    // The four lengths, in words.
-    fn lens(self) -> [usize; 4]
-        ensures { result ≡ length self.entry.dram.now ∷ length self.entry.console.now ∷ length self.entry.ncoh.now ∷ length self.entry.coh.now ∷ [] }
-    {
-        [
-            self.dram.len(),
-            self.console.len(),
-            self.ncoh.len(),
-            self.coh.len(),
-        ]
-    }
-}
-
 // Sums and checks the first `count` banks or regions of `words` in one loop: their sum if each keeps its rule. `k` is their section, not 1.
 fn sum_banks(words: &[u64], minor: u64, k: usize, count: usize) -> Option<u64>
     requires { (k ≢ 1) × (2 * count ≤ length words.now) }
@@ -104,20 +90,6 @@ fn sum_list(words: &[u64], minor: u64, k: usize) -> Option<u64>
     sum_banks(words, minor, k, count)
 }
 
-// W3: checks and sums all four lists, including those of sections after the edition. `None` if a list is not a whole number of entries or an entry
-// breaks its rule.
-pub fn sum_lists(minor: u64, lists: Lists) -> Option<Totals>
-    ensures value { result ≡ sums_of minor lists.entry.dram.now lists.entry.console.now lists.entry.ncoh.now lists.entry.coh.now }
-    ensures result_value { sums_number result ≡ (if lists_ok minor (lists_of lists.entry) then 0 else 3) }
-{
-    Some(Totals {
-        dram: sum_list(lists.dram, minor, 0)?,
-        console: sum_list(lists.console, minor, 1)?,
-        ncoh: sum_list(lists.ncoh, minor, 2)?,
-        coh: sum_list(lists.coh, minor, 3)?,
-    })
-}
-
 // W3: whether `fields` may be written.
 pub fn fields_ok(fields: &[u8]) -> bool
     ensures { result ≡ describable (scan_of fields.now) }
@@ -135,13 +107,6 @@ fn empty_from(from: usize, n: [usize; 4]) -> bool
         }
     }
     true
-}
-
-// W4: whether the list of every section after the edition is empty.
-pub fn later_sections_empty(e: Edition, lists: Lists) -> bool
-    ensures { result ≡ later_sections_empty e.minor (lists_of lists.entry) }
-{
-    empty_from(e.sections() as usize, lists.lens())
 }
 
 // Whether n[0] + n[1] + n[2] + n[3] <= room. Subtracts, because the sum could overflow.
@@ -169,18 +134,54 @@ fn marked_size(fields: &[u8]) -> usize
     fields.len() + 3
 }
 
-// W5: whether core, arrays and fields fit into 4,096 bytes.
-pub fn room_ok(e: Edition, lists: Lists, fields: &[u8]) -> bool
-    ensures { result ≡ nat_le (used e.minor (described lists.entry fields.now)) 4096 }
-{
-    if words::PAGE_LEN < fields.len() {
-        return false;
+impl<'a> Lists<'a> {
+    // The four lengths, in words.
+    fn lens(self) -> [usize; 4]
+        ensures { result ≡ length self.entry.dram.now ∷ length self.entry.console.now
+            ∷ length self.entry.ncoh.now ∷ length self.entry.coh.now ∷ [] }
+    {
+        [
+            self.dram.len(),
+            self.console.len(),
+            self.ncoh.len(),
+            self.coh.len(),
+        ]
     }
-    let left = words::PAGE_LEN - (e.core_size() as usize);
-    let marked = marked_size(fields);
-    if left < marked {
-        return false;
+
+    // W3: checks and sums all four lists, including those of sections after the edition. `None` if a list is not a whole number of entries or
+    // an entry breaks its rule.
+    pub fn sums(self, minor: u64) -> Option<Totals>
+        ensures value { result ≡ sums_of minor self.entry.dram.now self.entry.console.now self.entry.ncoh.now self.entry.coh.now }
+        ensures result_value { sums_number result ≡ (if lists_ok minor (lists_of self.entry) then 0 else 3) }
+    {
+        Some(Totals {
+            dram: sum_list(self.dram, minor, 0)?,
+            console: sum_list(self.console, minor, 1)?,
+            ncoh: sum_list(self.ncoh, minor, 2)?,
+            coh: sum_list(self.coh, minor, 3)?,
+        })
     }
-    let room = (left - marked) / 8;
-    fits(room, lists.lens())
+
+    // W4: whether the list of every section after the edition is empty.
+    pub fn later_sections_empty(self, e: Edition) -> bool
+        ensures { result ≡ later_sections_empty e.minor (lists_of self.entry) }
+    {
+        empty_from(e.sections() as usize, self.lens())
+    }
+
+    // W5: whether core, arrays and fields fit into 4,096 bytes.
+    pub fn room_ok(self, e: Edition, fields: &[u8]) -> bool
+        ensures { result ≡ nat_le (used e.minor (described self.entry fields.now)) 4096 }
+    {
+        if words::PAGE_LEN < fields.len() {
+            return false;
+        }
+        let left = words::PAGE_LEN - (e.core_size() as usize);
+        let marked = marked_size(fields);
+        if left < marked {
+            return false;
+        }
+        let room = (left - marked) / 8;
+        fits(room, self.lens())
+    }
 }
