@@ -1,13 +1,14 @@
 // The writer's checks of a description, W3 to W5: whole entries and valid fields, no entry of a section after the edition, and enough room.
 #![tactic(auto)]
 
-ghost use Rattle.std.specs.Prelude.{◌≡◌, [], ◌∷◌, ◌*◌, ◌%◌, ◌^◌, ◌≤◌, length, take, if◌then◌else◌, ◌≢◌, nat_le};
+ghost use Rattle.std.specs.Prelude.{◌≡◌, [], ◌∷◌, ◌*◌, ◌%◌, ◌^◌, ◌≤◌, ◌↔◌, length, take, drop, if◌then◌else◌, ◌≢◌, nat_le};
+ghost use Rattle.std.specs.Prelude.{IsTrue, All};
 ghost use Rattle.std.specs.Bool.{then_some};
 ghost use Rattle.entries.specs.Entry.{entries_ok, sum};
 ghost use Rattle.fields.specs.Fields.{scan_of, describable};
 ghost use Rattle.writer_checks.specs.Description.{lists_of, described, list_ok, lists_ok, later_sections_empty, with_mark, used};
 ghost use Rattle.writer_checks.specs.Fast.{sums_of, sums_number};
-ghost use Rattle.writer_checks.specs.Steps.{sum_to, late_to};
+ghost use Rattle.writer_checks.specs.Steps.{sum_to};
 
 use entries::Bits;
 use versions::Edition;
@@ -99,14 +100,10 @@ pub fn fields_ok(fields: &[u8]) -> bool
 
 // Whether the lists of sections [from, 4) are empty; `n` has the four lengths.
 fn empty_from(from: usize, n: [usize; 4]) -> bool
-    ensures { result ≡ late_to from 4 n }
+    requires { from ≤ 4 }
+    ensures { IsTrue result ↔ All (λ x. x ≡ 0) (drop from n) }
 {
-    for k in from..4 {
-        if n[k] != 0 {
-            return false;
-        }
-    }
-    true
+    n[from..].iter().all(|len| *len == 0)
 }
 
 // Whether n[0] + n[1] + n[2] + n[3] <= room. Subtracts, because the sum could overflow.
