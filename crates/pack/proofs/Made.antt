@@ -24,7 +24,7 @@ use Rattle.reader.specs.Answer.{Shown, PlatShown, shows, shown, shown_sec, plat_
 use Rattle.reader.proofs.Newer.{gate-shows}
 use Rattle.reader.proofs.Views.{shows-each}
 use Rattle.writer_checks.specs.Description.{Description, list_ok, lists_ok, later_sections_empty, plat_bytes, used}
-use Rattle.writer_checks.proofs.Lists.{described-none}
+use Rattle.writer_checks.proofs.Described.{described-none}
 use Rattle.writer_rules.specs.Write.{a-page, write_of, page_of}
 use Rattle.writer_rules.proofs.Checks.{w-made}
 use Rattle.pack.specs.Pack.{entries_in, fields_kept, shown_description, written, packed_from, pack_of}

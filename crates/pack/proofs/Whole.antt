@@ -6,7 +6,7 @@ use Rattle.words.proofs.Store.{length-splice, splice-splice, bytes-in, words-in}
 use Rattle.versions.specs.Edition.{section_count, core}
 use Rattle.versions.proofs.Editions.{section-count-most}
 use Rattle.writer_checks.specs.Description.{plat_bytes, used}
-use Rattle.writer_checks.proofs.Lists.{marked_more}
+use Rattle.writer_checks.proofs.Described.{marked_more}
 use Rattle.writer_rules.specs.Write.{array_address, descriptor_at, point_to, plat_word, core_words, page_of}
 use Rattle.writer_rules.proofs.Given.{desc-length}
 use Rattle.writer.proofs.Pages.{page-law}

@@ -9,7 +9,7 @@ use Rattle.versions.specs.Edition.{section_count, core}
 use Rattle.versions.proofs.Editions.{section-count-most}
 use Rattle.fields.specs.Fields.{end_mark}
 use Rattle.writer_checks.specs.Description.{Description, four_lists, description_of, with_mark, plat_bytes, used}
-use Rattle.writer_checks.proofs.Lists.{marked_more}
+use Rattle.writer_checks.proofs.Described.{marked_more}
 use Rattle.writer_rules.specs.Write.{descriptor, array_address, point_to, plat_word, descriptor_at, core_words, filled, page_of}
 use Rattle.writer.specs.Steps.{section_on, arrays_on}
 use Rattle.writer_rules.proofs.Given.{desc-length}

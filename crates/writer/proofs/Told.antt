@@ -11,7 +11,7 @@ use Rattle.fields.specs.Fields.{scan_of, describable}
 use Rattle.writer_checks.specs.Description.{four_lists, description_of, later_sections_empty, used}
 use Rattle.writer_checks.specs.Fast.{totals_of, sums_of}
 use Rattle.writer_checks.specs.declared.Totals.{Totals}
-use Rattle.writer_checks.proofs.Lists.{unsound-lists, sound-lists, sound-totals}
+use Rattle.writer_checks.proofs.Described.{unsound-lists, sound-lists, sound-totals}
 use Rattle.writer_rules.specs.Write.{page_of, description_fits}
 use Rattle.writer_rules.specs.Wrote.{Wrote, write_lists, made_by, page_after}
 use Rattle.writer_rules.specs.declared.WriteError.{WriteError}

@@ -6,6 +6,7 @@ use Rattle.words.specs.Word.{joined}
 use Rattle.versions.specs.Edition.{section_count, core}
 use Rattle.entries.specs.Entry.{words_per_entry, entries_ok}
 use Rattle.fields.specs.Fields.{scan_of, describable, end_mark}
+use Rattle.writer_checks.specs.declared.Lists.{Lists}
 
 -- a description: the words of each section's list, and the bytes of the fields without an end mark (WR1, WR2)
 pub record Description : Type 0 where
@@ -23,6 +24,13 @@ four_lists a b c d (suc (suc (suc (suc n)))) = []
 -- the description with lists `a` to `d` and fields `fs`
 unfoldable pub description_of : List ℕ → List ℕ → List ℕ → List ℕ → List ℕ → Description
 description_of a b c d fs = record { lists = four_lists a b c d; fields = fs }
+
+-- the same of the four lists that the code is handed
+abbrev pub lists_of : Lists → ℕ → List ℕ
+lists_of l = four_lists l.dram.now l.console.now l.ncoh.now l.coh.now
+
+abbrev pub described : Lists → List ℕ → Description
+described l fs = description_of l.dram.now l.console.now l.ncoh.now l.coh.now fs
 
 -- W3: "list length not a whole number of entries, or an entry that breaks a reader's rule"; `v` is the page's minor
 unfoldable pub list_ok : ℕ → ℕ → List ℕ → Bool

@@ -1,4 +1,4 @@
--- For speed: the code sums a list while it checks it. `sums-sound` (proofs/Lists.antt) proves that `sums_of` has totals exactly if `lists_ok` holds;
+-- For speed: the code sums a list while it checks it. `sums-sound` (proofs/Described.antt) proves that `sums_of` has totals exactly if `lists_ok` holds;
 -- `totals_of` defines them as the sums of the words; `sums-told` proves that `sums_number` is 3 exactly if `lists_ok` fails. Assumes nothing.
 use Rattle.std.specs.Prelude.{ℕ, ◌%◌, ◌^◌, cond, List, Option, Some, None}
 use Rattle.entries.specs.Entry.{sum}

@@ -1,4 +1,4 @@
--- For the loops of `writer_checks`. Laws of proofs/Lists.antt: `to-joined` proves `sum_to 4` equal to the length of the joined lists, which `used` counts;
+-- For the loops of `writer_checks`. Laws of proofs/Described.antt: `to-joined` proves `sum_to 4` equal to the length of the joined lists, which `used` counts;
 -- `late-same` proves `late_to` at the edition's section count equal to `later_sections_empty`. Assumes nothing.
 use Rattle.std.specs.Prelude.{ℕ, zero, suc, ◌+◌, Bool, List, ◌==◌, nat_lt, slice_index}
 use Rattle.words.specs.Tests.{either, every}

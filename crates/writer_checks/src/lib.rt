@@ -1,13 +1,14 @@
 // The writer's checks of a description, W3 to W5: whole entries and valid fields, no entry of a section after the edition, and enough room.
 #![tactic(auto)]
 
-ghost use Rattle.std.specs.Prelude.{◌≡◌, ◌*◌, ◌%◌, ◌^◌, ◌≤◌, length, take, if◌then◌else◌, ◌≢◌, nat_le};
+ghost use Rattle.std.specs.Prelude.{◌≡◌, [], ◌∷◌, ◌*◌, ◌%◌, ◌^◌, ◌≤◌, ◌↔◌, length, take, drop, if◌then◌else◌, ◌≢◌, nat_le};
+ghost use Rattle.std.specs.Prelude.{IsTrue, All};
 ghost use Rattle.std.specs.Bool.{then_some};
 ghost use Rattle.entries.specs.Entry.{entries_ok, sum};
 ghost use Rattle.fields.specs.Fields.{scan_of, describable};
-ghost use Rattle.writer_checks.specs.Description.{four_lists, description_of, list_ok, lists_ok, later_sections_empty, with_mark, used};
+ghost use Rattle.writer_checks.specs.Description.{lists_of, described, list_ok, lists_ok, later_sections_empty, with_mark, used};
 ghost use Rattle.writer_checks.specs.Fast.{sums_of, sums_number};
-ghost use Rattle.writer_checks.specs.Steps.{sum_to, late_to};
+ghost use Rattle.writer_checks.specs.Steps.{sum_to};
 
 use entries::Bits;
 use versions::Edition;
@@ -19,6 +20,15 @@ pub struct Totals {
     pub console: u64,
     pub ncoh: u64,
     pub coh: u64,
+}
+
+// The four lists of a description, in section order.
+#[derive(Clone, Copy)]
+pub struct Lists<'a> {
+    pub dram: &'a [u64],
+    pub console: &'a [u64],
+    pub ncoh: &'a [u64],
+    pub coh: &'a [u64],
 }
 
 // Sums and checks the first `count` banks or regions of `words` in one loop: their sum if each keeps its rule. `k` is their section, not 1.
@@ -81,26 +91,6 @@ fn sum_list(words: &[u64], minor: u64, k: usize) -> Option<u64>
     sum_banks(words, minor, k, count)
 }
 
-// W3: checks and sums all four lists, including those of sections after the edition. `None` if a list is not a whole number of entries or an entry
-// breaks its rule.
-pub fn sum_lists(
-    minor: u64,
-    dram: &[u64],
-    console: &[u64],
-    ncoh: &[u64],
-    coh: &[u64],
-) -> Option<Totals>
-    ensures value { result ≡ sums_of minor dram.now console.now ncoh.now coh.now }
-    ensures result_value { sums_number result ≡ (if lists_ok minor (four_lists dram.now console.now ncoh.now coh.now) then 0 else 3) }
-{
-    Some(Totals {
-        dram: sum_list(dram, minor, 0)?,
-        console: sum_list(console, minor, 1)?,
-        ncoh: sum_list(ncoh, minor, 2)?,
-        coh: sum_list(coh, minor, 3)?,
-    })
-}
-
 // W3: whether `fields` may be written.
 pub fn fields_ok(fields: &[u8]) -> bool
     ensures { result ≡ describable (scan_of fields.now) }
@@ -110,28 +100,10 @@ pub fn fields_ok(fields: &[u8]) -> bool
 
 // Whether the lists of sections [from, 4) are empty; `n` has the four lengths.
 fn empty_from(from: usize, n: [usize; 4]) -> bool
-    ensures { result ≡ late_to from 4 n }
+    requires { from ≤ 4 }
+    ensures { IsTrue result ↔ All (λ x. x ≡ 0) (drop from n) }
 {
-    for k in from..4 {
-        if n[k] != 0 {
-            return false;
-        }
-    }
-    true
-}
-
-// W4: whether the list of every section after the edition is empty.
-pub fn later_sections_empty(
-    e: Edition,
-    dram: &[u64],
-    console: &[u64],
-    ncoh: &[u64],
-    coh: &[u64],
-) -> bool
-    ensures { result ≡ later_sections_empty e.minor (four_lists dram.now console.now ncoh.now coh.now) }
-{
-    let n = [dram.len(), console.len(), ncoh.len(), coh.len()];
-    empty_from(e.sections() as usize, n)
+    n[from..].iter().all(|len| *len == 0)
 }
 
 // Whether n[0] + n[1] + n[2] + n[3] <= room. Subtracts, because the sum could overflow.
@@ -159,26 +131,54 @@ fn marked_size(fields: &[u8]) -> usize
     fields.len() + 3
 }
 
-// W5: whether core, arrays and fields fit into 4,096 bytes.
-pub fn room_ok(
-    e: Edition,
-    dram: &[u64],
-    console: &[u64],
-    ncoh: &[u64],
-    coh: &[u64],
-    fields: &[u8],
-) -> bool
-    ensures { result ≡ nat_le (used e.minor (description_of dram.now console.now ncoh.now coh.now fields.now)) 4096 }
-{
-    if words::PAGE_LEN < fields.len() {
-        return false;
+impl<'a> Lists<'a> {
+    // The four lengths, in words.
+    fn lens(self) -> [usize; 4]
+        ensures { result ≡ length self.entry.dram.now ∷ length self.entry.console.now
+            ∷ length self.entry.ncoh.now ∷ length self.entry.coh.now ∷ [] }
+    {
+        [
+            self.dram.len(),
+            self.console.len(),
+            self.ncoh.len(),
+            self.coh.len(),
+        ]
     }
-    let left = words::PAGE_LEN - (e.core_size() as usize);
-    let marked = marked_size(fields);
-    if left < marked {
-        return false;
+
+    // W3: checks and sums all four lists, including those of sections after the edition. `None` if a list is not a whole number of entries or
+    // an entry breaks its rule.
+    pub fn sums(self, minor: u64) -> Option<Totals>
+        ensures value { result ≡ sums_of minor self.entry.dram.now self.entry.console.now self.entry.ncoh.now self.entry.coh.now }
+        ensures result_value { sums_number result ≡ (if lists_ok minor (lists_of self.entry) then 0 else 3) }
+    {
+        Some(Totals {
+            dram: sum_list(self.dram, minor, 0)?,
+            console: sum_list(self.console, minor, 1)?,
+            ncoh: sum_list(self.ncoh, minor, 2)?,
+            coh: sum_list(self.coh, minor, 3)?,
+        })
     }
-    let room = (left - marked) / 8;
-    let n = [dram.len(), console.len(), ncoh.len(), coh.len()];
-    fits(room, n)
+
+    // W4: whether the list of every section after the edition is empty.
+    pub fn later_sections_empty(self, e: Edition) -> bool
+        ensures { result ≡ later_sections_empty e.minor (lists_of self.entry) }
+    {
+        empty_from(e.sections() as usize, self.lens())
+    }
+
+    // W5: whether core, arrays and fields fit into 4,096 bytes.
+    pub fn room_ok(self, e: Edition, fields: &[u8]) -> bool
+        ensures { result ≡ nat_le (used e.minor (described self.entry fields.now)) 4096 }
+    {
+        if words::PAGE_LEN < fields.len() {
+            return false;
+        }
+        let left = words::PAGE_LEN - (e.core_size() as usize);
+        let marked = marked_size(fields);
+        if left < marked {
+            return false;
+        }
+        let room = (left - marked) / 8;
+        fits(room, self.lens())
+    }
 }

@@ -26,7 +26,7 @@ use Rattle.sections.specs.Page.{place_ok}
 use Rattle.sections.proofs.Sections.{placed}
 use Rattle.sections.proofs.Facts.{place-acts}
 use Rattle.writer_checks.specs.Description.{Description, list_ok, lists_ok, description_ok, later_sections_empty, with_mark, plat_bytes, used}
-use Rattle.writer_checks.proofs.Lists.{marked-none, marked-some}
+use Rattle.writer_checks.proofs.Described.{marked-none, marked-some}
 use Rattle.writer_rules.specs.Unrefused.{EditionFacts, NoneWithdrawn, DescriptionFacts, LateFacts, RoomAfter, RoomFacts, Unrefused}
 use Rattle.writer_rules.specs.Unrefused.{WriteRefuses}
 use Rattle.writer_rules.specs.Write.{page_of, no-page, a-page, writer_gate, write_of}

@@ -30,7 +30,7 @@ pub returns : goal.returns
 unfolding description_of four_lists
 returns c =
     let a = c.args in
-    core-law a.base a.e.minor (description_of a.dram.now a.console.now a.ncoh.now a.coh.now a.fields.now)
+    core-law a.base a.e.minor (description_of a.lists.dram.now a.lists.console.now a.lists.ncoh.now a.lists.coh.now a.fields.now)
     a.page.now c.requires.1 _ _ _ _ _ _ _ _ _ _
     c.plat_pointer-plat.ensures
     c.put_words.ensures (ap (λ (x : ℕ). a.base + x) c.core_size.ensures.0)

@@ -8,7 +8,7 @@ put_core-requires c =
     let a = c.args in (
       search rules,
       c.requires.1,
-      words-room a.e.minor a.dram.now a.console.now a.ncoh.now a.coh.now a.fields.now
+      words-room a.e.minor a.lists.dram.now a.lists.console.now a.lists.ncoh.now a.lists.coh.now a.fields.now
           c.requires.2,
       c.requires.3,
     )
@@ -16,14 +16,14 @@ put_core-requires c =
 pub put_arrays-behind-requires : goal.put_arrays-behind-requires
 put_arrays-behind-requires c =
     let a = c.args in
-    let r = words-room a.e.minor a.dram.now a.console.now a.ncoh.now a.coh.now a.fields.now c.requires.2 in
+    let r = words-room a.e.minor a.lists.dram.now a.lists.console.now a.lists.ncoh.now a.lists.coh.now a.fields.now c.requires.2 in
     (search rules, r)
 
 pub put_fields-end-requires : goal.put_fields-end-requires
 unfolding description_of four_lists
 put_fields-end-requires c =
     let a = c.args in
-    let d = description_of a.dram.now a.console.now a.ncoh.now a.coh.now a.fields.now in
+    let d = description_of a.lists.dram.now a.lists.console.now a.lists.ncoh.now a.lists.coh.now a.fields.now in
     let l = fields_in a.base a.e.minor d a.page.now c.requires.1 c.core_size-at.result
     c.put_arrays-behind.result c.requires.2 c.core_size-at.ensures.0
     c.put_arrays-behind.ensures.0 in
@@ -33,7 +33,7 @@ pub slice_bounds-clear-count : goal.slice_bounds-clear-count
 unfolding description_of four_lists
 slice_bounds-clear-count c =
     let a = c.args in
-    let d = description_of a.dram.now a.console.now a.ncoh.now a.coh.now a.fields.now in
+    let d = description_of a.lists.dram.now a.lists.console.now a.lists.ncoh.now a.lists.coh.now a.fields.now in
     let l = fields_in a.base a.e.minor d a.page.now c.requires.1
     c.core_size-at.result
     c.put_arrays-behind.result c.requires.2
@@ -45,7 +45,7 @@ pub slice_bounds-clear-start : goal.slice_bounds-clear-start
 unfolding description_of four_lists
 slice_bounds-clear-start c =
     let a = c.args in
-    let d = description_of a.dram.now a.console.now a.ncoh.now a.coh.now a.fields.now in
+    let d = description_of a.lists.dram.now a.lists.console.now a.lists.ncoh.now a.lists.coh.now a.fields.now in
     let l = fields_in a.base a.e.minor d a.page.now c.requires.1
     c.core_size-at.result
     c.put_arrays-behind.result c.requires.2
@@ -57,7 +57,7 @@ pub returns : goal.returns
 unfolding description_of four_lists
 returns c =
     let a = c.args in
-    let d = description_of a.dram.now a.console.now a.ncoh.now a.coh.now a.fields.now in
+    let d = description_of a.lists.dram.now a.lists.console.now a.lists.ncoh.now a.lists.coh.now a.fields.now in
     let z = c.core_size-at in
     let g = arrays-law a.base a.e.minor d a.page.now c.requires.1 z.result _ _ c.requires.2 z.ensures.0
     c.put_core.ensures c.put_arrays-behind.ensures.1 in

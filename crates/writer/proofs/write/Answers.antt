@@ -36,7 +36,7 @@ returns-in_err-totals c =
     _ c.place_ok.ensures
     (c.if-not-place_ok.false)
     _ c.is_edition.ensures (c.if-not-is_edition.false)
-    _ c.sum_lists-sums.ensures.value o in
+    _ c.sums-sums.ensures.value o in
     let r = bad_entry c.from_residual.ensures.1 (sym c.in_err-totals.was ∙ c.ok_or.ensures.value) o in
     rw r (record { result_after = told.0; page_after = told.1.0; yes = told.1.1 })
 
@@ -52,7 +52,7 @@ returns-then-not-fields_ok c =
     _ c.place_ok.ensures (c.if-not-place_ok.false)
     _ c.is_edition.ensures
     (c.if-not-is_edition.false)
-    _ c.sum_lists-sums.ensures.value _ (c.ok_or.ensures.ok_part ∙ ap result_ok c.in_ok-totals.was)
+    _ c.sums-sums.ensures.value _ (c.ok_or.ensures.ok_part ∙ ap result_ok c.in_ok-totals.was)
     _ c.fields_ok.ensures (c.if-not-fields_ok.true) in record { result_after = told.0; page_after = told.1.0; yes = told.1.1 }
 
 pub returns-then-not-later_sections_empty : goal.returns-then-not-later_sections_empty
@@ -64,7 +64,7 @@ returns-then-not-later_sections_empty c =
     c.shared_slice_known-4-1.given)
     _ c.place_ok.ensures (c.if-not-place_ok.false)
     _ c.is_edition.ensures (c.if-not-is_edition.false)
-    _ c.sum_lists-sums.ensures.value _
+    _ c.sums-sums.ensures.value _
     (c.ok_or.ensures.ok_part ∙ ap result_ok c.in_ok-totals.was)
     _ c.fields_ok.ensures (c.if-not-fields_ok.false)
     _ c.later_sections_empty.ensures (c.if-not-later_sections_empty.true) in record { result_after = told.0; page_after = told.1.0; yes = told.1.1 }
@@ -78,7 +78,7 @@ returns-then-not-room_ok c =
     c.shared_slice_known-3-1.given c.shared_slice_known-4-1.given)
     _ c.place_ok.ensures (c.if-not-place_ok.false)
     _ c.is_edition.ensures (c.if-not-is_edition.false)
-    _ c.sum_lists-sums.ensures.value _ (c.ok_or.ensures.ok_part ∙ ap result_ok c.in_ok-totals.was)
+    _ c.sums-sums.ensures.value _ (c.ok_or.ensures.ok_part ∙ ap result_ok c.in_ok-totals.was)
     _ c.fields_ok.ensures (c.if-not-fields_ok.false)
     _ c.later_sections_empty.ensures (c.if-not-later_sections_empty.false)
     _ c.room_ok.ensures (c.if-not-room_ok.true) in record { result_after = told.0; page_after = told.1.0; yes = told.1.1 }
@@ -89,7 +89,7 @@ put_page-requires c =
     told-ready a.base a.edition a.dram.now a.console.now a.ncoh.now a.coh.now a.fields.now a.page.now
     _ c.place_ok.ensures
     (c.if-not-place_ok.false)
-    _ c.sum_lists-sums.ensures.value _ (c.ok_or.ensures.ok_part ∙ ap result_ok c.in_ok-totals.was)
+    _ c.sums-sums.ensures.value _ (c.ok_or.ensures.ok_part ∙ ap result_ok c.in_ok-totals.was)
     _ c.room_ok.ensures (c.if-not-room_ok.false)
 
 pub returns : goal.returns
@@ -104,7 +104,7 @@ returns c =
     _ c.place_ok.ensures (c.if-not-place_ok.false)
     _ c.is_edition.ensures
     (c.if-not-is_edition.false)
-    _ c.sum_lists-sums.ensures.value _ (c.ok_or.ensures.ok_part ∙ ap result_ok c.in_ok-totals.was)
+    _ c.sums-sums.ensures.value _ (c.ok_or.ensures.ok_part ∙ ap result_ok c.in_ok-totals.was)
     _ c.fields_ok.ensures (c.if-not-fields_ok.false)
     _ c.later_sections_empty.ensures
     (c.if-not-later_sections_empty.false)

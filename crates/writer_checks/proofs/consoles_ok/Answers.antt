@@ -2,7 +2,7 @@ use Rattle.std.proofs.Common.{◌≡◌, sym, ◌∙◌, arith, rules}
 use Rattle.words.specs.Tests.{both, either}
 use Rattle.entries.specs.Entry.{flags_ok}
 use Rattle.entries.specs.Fast.{console_clear}
-use Rattle.writer_checks.proofs.Lists.{described-none, described-console}
+use Rattle.writer_checks.proofs.Described.{described-none, described-console}
 use Rattle.writer_checks.proofs.consoles_ok.Goals as goal
 
 pub loop-i-init : goal.loop-i-init

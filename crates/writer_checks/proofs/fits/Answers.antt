@@ -1,7 +1,7 @@
 use Rattle.std.proofs.Common.{◌≡◌, sym, arith, le-leb}
 use borrow.Author.Tests.{lt-leb}
 use Rattle.writer_checks.specs.Steps.{sum_to}
-use Rattle.writer_checks.proofs.Lists.{to_none, to-more, to-over}
+use Rattle.writer_checks.proofs.Described.{to_none, to-more, to-over}
 use Rattle.writer_checks.proofs.fits.Goals as goal
 
 pub loop-len-init : goal.loop-len-init

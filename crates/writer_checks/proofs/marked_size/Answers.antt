@@ -1,4 +1,4 @@
-use Rattle.writer_checks.proofs.Lists.{marked-none, marked-some}
+use Rattle.writer_checks.proofs.Described.{marked-none, marked-some}
 use Rattle.std.proofs.Common.{rules}
 use Rattle.writer_checks.proofs.marked_size.Goals as goal
 

@@ -2,7 +2,7 @@ use Rattle.std.proofs.Common.{◌≡◌, ◌+◌, get_or, sym, refl, ap, ◌∙�
 use Rattle.words.specs.Tests.{both}
 use Rattle.entries.specs.Entry.{bank_ok, sum}
 use Rattle.entries.specs.Fast.{bank_clear}
-use Rattle.writer_checks.proofs.Lists.{described-none, described-bank, sum-bank}
+use Rattle.writer_checks.proofs.Described.{described-none, described-bank, sum-bank}
 use Rattle.writer_checks.proofs.sum_banks.Goals as goal
 
 pub loop-i-init : goal.loop-i-init

@@ -1,7 +1,7 @@
 use Rattle.std.proofs.Common.{◌≡◌, ◌*◌, ◌/◌, ◌%◌, ◌≤◌, length, sym, ap, ◌∙◌, arith}
 use Rattle.entries.specs.Entry.{words_per_entry, entries_ok}
 use Rattle.entries.proofs.Entries.{per-one, per-other}
-use Rattle.writer_checks.proofs.Lists.{whole_room, list-part, list-whole, sum-all}
+use Rattle.writer_checks.proofs.Described.{whole_room, list-part, list-whole, sum-all}
 use Rattle.writer_checks.proofs.sum_list.Goals as goal
 
 pub returns-then-words-step-ne0 : goal.returns-then-words-step-ne0

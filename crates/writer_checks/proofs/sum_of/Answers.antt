@@ -1,5 +1,5 @@
 use Rattle.std.proofs.Common.{◌∙◌, arith}
-use Rattle.writer_checks.proofs.Lists.{sum-none, sum_more, sum-all}
+use Rattle.writer_checks.proofs.Described.{sum-none, sum_more, sum-all}
 use Rattle.writer_checks.proofs.sum_of.Goals as goal
 
 pub loop-word-init : goal.loop-word-init

@@ -1,11 +1,15 @@
 -- Laws of the checks of four lists. Assumes nothing.
-use Rattle.std.proofs.Common.{◌≡◌, ℕ, zero, suc, ◌+◌, ◌-◌, ◌*◌, ◌/◌, ◌%◌, ◌^◌, ◌<◌, ◌≤◌, Bool, true, false, cond, eqb, ltb, leb, List, [], ◌∷◌, length, get_or, take, sym, refl, ap, ◌∙◌, add-zero, add-one, arith, length-append, take-suc, le-ltb, lt-ltb, eq-eqb, ne_eqb, le-leb, leb-true, true≢false, Option, Some, None}
+use Rattle.std.proofs.Common.{rules, IsTrue, All, ◌↔◌, drop, ltb-true, eqb-true, ◌≡◌, ℕ, zero, suc, ◌+◌, ◌-◌, ◌*◌, ◌/◌, ◌%◌, ◌^◌, ◌<◌, ◌≤◌, Bool, true, false, cond, eqb, ltb, leb, List, [], ◌∷◌, length, get_or, take, sym, refl, ap, ◌∙◌, add-zero, add-one, arith, length-append, length-drop, take-suc, lt-ltb, eq-eqb, ne_eqb, le-leb, leb-true, true≢false, Option, Some, None}
 use Rattle.std.specs.Bool.{then_some}
 use native.Mathlib.Nat.{div-add-mod}
 use lib.Seq.{take-length}
 use borrow.Author.Tests.{lt-leb}
-use Rattle.words.specs.Tests.{both, either, every}
-use Rattle.words.proofs.Tests.{either_l, every_of, every-at, every-none, every_more, every-not, same_test}
+use mathlib.Core.Logic.{◌⊎◌, inl, inr}
+use Rattle.std.proofs.lemmas.Bool.{cases_lt}
+use Rattle.std.proofs.lemmas.List.{get_or-drop}
+use Rattle.std.proofs.lemmas.List.Elements.{All-get_or, All-from_get_or}
+use Rattle.words.specs.Tests.{Yes, both, either, every}
+use Rattle.words.proofs.Tests.{either_l, either_r, either-cases, every_of, every-at, every-none, same_test}
 use Rattle.words.specs.Word.{joined}
 use Rattle.versions.specs.Edition.{section_count, core}
 use Rattle.versions.proofs.Editions.{section-count-most}
@@ -185,29 +189,34 @@ pub to-joined : (a b c d : List ℕ) → sum_to 4 (lens a b c d) ≡ length (joi
 unfolding sum_to joined four_lists
 to-joined a b c d = simp length-append
 
-either_true : (a : Bool) → either a true ≡ true
-unfolding either
-either_true true = refl
-either_true false = refl
+is-true : (r : Bool) → r ≡ true → IsTrue r
+is-true r e = search rules
 
-module _ (from : ℕ) (n : List ℕ) where
-  pub late-none : late_to from from n ≡ true
-  unfolding late_to
-  late-none = every_of from (λ j. either (ltb j from) (eqb (get_or n j 0) 0)) (λ i h. either_l _ _ (lt-ltb i from h))
+true-is : (r : Bool) → IsTrue r → r ≡ true
+true-is r e = search rules
 
-  pub late-more : (k : ℕ) → late_to from k n ≡ true → get_or n k 0 ≡ 0 → late_to from (k + 1) n ≡ true
-  unfolding late_to
-  late-more k p q = every_more k (λ j. either (ltb j from) (eqb (get_or n j 0) 0)) p (rw (eq-eqb (get_or n k 0) 0 q, either_true))
+-- the lists from one section on are empty
+pub late-of : (r : Bool) (from : ℕ) (n : List ℕ) → length n ≡ 4 → from ≤ 4 → (IsTrue r ↔ All (λ x. x ≡ 0) (drop from n)) → r ≡ late_to from 4 n
+unfolding late_to
+late-of r from n four h e =
+    same_test r (every 4 (λ j. either (ltb j from) (eqb (get_or n j 0) 0)))
+    (λ p. every_of 4 (λ j. either (ltb j from) (eqb (get_or n j 0) 0)) (λ i m. late-at i (e.0 (is-true r p)) (cases_lt i from) m))
+    (λ p. true-is r (e.1 (All-from_get_or (λ x. x ≡ 0) (drop from n) 0 (λ i m. late-back i m p))))
+  where
+    late-at : (i : ℕ) → All (λ x. x ≡ 0) (drop from n) → (i < from) ⊎ (from ≤ i) → i < 4 → Yes (either (ltb i from) (eqb (get_or n i 0) 0))
+    late-at i q (inl m) o = either_l _ _ (lt-ltb i from m)
+    late-at i q (inr m) o =
+        let l : length (drop from n) ≡ length n - from = length-drop from n in
+        let z = All-get_or (λ x. x ≡ 0) (drop from n) (i - from) 0 (omega arith) q in
+        let y : get_or n (from + (i - from)) 0 ≡ 0 = sym (get_or-drop from n (i - from) 0) ∙ z in
+        let w : from + (i - from) ≡ i = omega arith in
+        either_r _ _ (eq-eqb (get_or n i 0) 0 (rw w at y))
 
-  pub late-not : (k : ℕ) → k < 4 → from ≤ k → (get_or n k 0 ≡ 0 → ⊥) → late_to from 4 n ≡ false
-  unfolding late_to either
-  late-not k h p q = every-not 4 (λ j. either (ltb j from) (eqb (get_or n j 0) 0)) k h (rw (le-ltb k from p, ne_eqb (get_or n k 0) 0 q))
-
-  pub late-end : (k : ℕ) → 4 ≤ k → late_to from k n ≡ true → late_to from 4 n ≡ true
-  unfolding late_to
-  late-end k h p =
-      every_of 4 (λ j. either (ltb j from) (eqb (get_or n j 0) 0))
-      (λ i m. every-at k (λ j. either (ltb j from) (eqb (get_or n j 0) 0)) p i (omega arith))
+    late-back : (i : ℕ) → i < length (drop from n) → Yes (every 4 (λ j. either (ltb j from) (eqb (get_or n j 0) 0))) → get_or (drop from n) i 0 ≡ 0
+    late-back i m p =
+        let l : length (drop from n) ≡ length n - from = length-drop from n in
+        let q = every-at 4 (λ j. either (ltb j from) (eqb (get_or n j 0) 0)) p (from + i) (omega arith) in
+        get_or-drop from n i 0 ∙ either-cases (ltb (from + i) from) (eqb (get_or n (from + i) 0) 0) (λ t. absurd (let z : ⊥ = omega (arith, ltb-true (from + i) from t) in z)) (λ t. eqb-true (get_or n (from + i) 0) 0 t) q
 
 pub late-same : (v : ℕ) (a b c d : List ℕ) → late_to (section_count v) 4 (lens a b c d) ≡ later_sections_empty v (four_lists a b c d)
 unfolding late_to later_sections_empty four_lists every
