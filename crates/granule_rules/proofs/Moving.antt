@@ -1,5 +1,5 @@
 -- Delegation, return by return, and what a refusal leaves. Assumes nothing.
-use Rattle.std.specs.Prelude.{Option, Some, None}
+use Rattle.std.specs.Prelude.{Option, Some, None, Result, Err, Ok as Go}
 use Prim.Native.Nat.{ℕ, ◌+◌, ◌/◌, ◌<◌}
 use mathlib.Core.Path.{◌≡◌, refl, sym, ap, ◌∙◌}
 use mathlib.Core.Bool.{Bool, true, false, false≢true}
@@ -17,13 +17,13 @@ use Rattle.boot.specs.declared.Record.{Record}
 use Rattle.codes.specs.Codes.{is_up, is_false, fails, boot_params, when_up, is_ok, answer_of}
 use Rattle.codes.specs.declared.Code.{Code}
 use Rattle.codes.specs.declared.Code.TheVariants.{Ok, Unk, BadAddr, BadPas, Inval}
-use Rattle.codes.proofs.Gates.{if-ok-by}
+use Rattle.codes.proofs.Gates.{if-ok-by, went, stood, stops, goes}
 use Rattle.codes.specs.declared.Answer.{Answer}
 use Rattle.banks.proofs.Laws.{falls, index_below}
 use Rattle.banks.proofs.Fast.{table_fits, table-fits, table-unfit}
 use Rattle.granule_rules.specs.Granules.{GranuleTable, table_of, from_byte, to_byte, is_shared_page, granule_code, move_code, granule_set}
 use Rattle.granule_rules.specs.Granules.{moved, Moved, moved_by, fitting, when_fit, move_of, moved_to}
-use Rattle.granule_rules.specs.Steps.{Inside, shared_code, move_at}
+use Rattle.granule_rules.specs.Steps.{Inside, shared_code, move_at, MoveResult}
 use Rattle.granule_rules.specs.declared.Direction.{Direction}
 
 -- ---- the granule of an address is within the table
@@ -93,7 +93,7 @@ module _ (s : Record) (g : Granules) (d : Direction) (t : GranuleTable) (addr : 
   move-unfit h = rw h
 
   module _ (f : fitting g t ≡ true) where
-    move_down : is_up s ≡ false → moved_by Unk t t ≡ move_of s g d t addr
+    pub move_down : is_up s ≡ false → moved_by Unk t t ≡ move_of s g d t addr
     unfolding move_of moved_by when_fit when_up is_false fails
     move_down h = rw (f, h)
 
@@ -101,8 +101,9 @@ module _ (s : Record) (g : Granules) (d : Direction) (t : GranuleTable) (addr : 
     unfolding move_of move_at when_fit when_up is_false fails
     move_up h = rw (f, h)
 
-    pub told-up : is_up s ≡ true → (u : Params) → u ≡ boot_params s → (m : Moved) → m ≡ move_at u g d t addr → m ≡ move_of s g d t addr
-    told-up h u v m e = e ∙ rw v (move_up h)
+    pub result_up : is_up s ≡ true → (u : Params) → u ≡ boot_params s → (r : Result (Unit {0}) Code) (bytes words : List ℕ) →
+        MoveResult r bytes words (move_at u g d t addr) → MoveResult r bytes words (move_of s g d t addr)
+    result_up h u v r bytes words m = rw (← move_up h, ← v) m
 
     -- the address is on no granule of the table
     move-nowhere : is_up s ≡ true → granule_at g (length t.bytes) addr ≡ None →
@@ -154,3 +155,33 @@ pub move-refused : (s : Record) (g : Granules) (d : Direction) (t : GranuleTable
     move_of s g d t addr ≡ record { answer = answer_of (move_of s g d t addr).answer.code 0 0; table = t }
 unfolding move_of moved_by answer_of
 move-refused s g d t addr h = rw h
+
+-- ---- the result of a call in place of its code
+module _ (m : Moved) (t ws : List ℕ) where
+  pub result-ok : moved_to (answer_of Ok 0 0) t ws ≡ m → MoveResult (Go tt) t ws m
+  unfolding moved_to answer_of
+  result-ok e = (goes _ _ _ (ap (λ (x : Moved). x.answer.code) (sym e)) refl, ap (λ (x : Moved). x.table) e)
+
+  pub result-err : (k : Code) → is_ok k ≡ false → moved_to (answer_of k 0 0) t ws ≡ m → MoveResult (Err k) t ws m
+  unfolding moved_to answer_of
+  result-err k n e = (stops _ _ k (ap (λ (x : Moved). x.answer.code) (sym e)) n, ap (λ (x : Moved). x.table) e)
+
+  -- and back, for a call that has zeros in x1 and x2
+  module _ (p : m.answer ≡ answer_of m.answer.code 0 0) where
+    pub moved-ok : MoveResult (Go tt) t ws m → moved_to (answer_of Ok 0 0) t ws ≡ m
+    unfolding moved_to
+    moved-ok h = rw (← (went m.answer.code tt tt (sym h.0)).0, ← p, h.1)
+
+    pub moved-err : (k : Code) → MoveResult (Err k) t ws m → (moved_to (answer_of k 0 0) t ws ≡ m) × (is_ok k ≡ false)
+    unfolding moved_to
+    moved-err k h = let g = stood m.answer.code tt k (sym h.0) in (rw (← g.0, ← p, h.1), g.1)
+
+pub at-zeros : (u : Params) (g : Granules) (d : Direction) (t : GranuleTable) (addr : ℕ) →
+    (move_at u g d t addr).answer ≡ answer_of (move_at u g d t addr).answer.code 0 0
+unfolding move_at moved_by answer_of
+at-zeros u g d t addr = refl
+
+pub of-zeros : (s : Record) (g : Granules) (d : Direction) (t : GranuleTable) (addr : ℕ) →
+    (move_of s g d t addr).answer ≡ answer_of (move_of s g d t addr).answer.code 0 0
+unfolding move_of moved_by answer_of
+of-zeros s g d t addr = refl

@@ -2,15 +2,15 @@
 // words have one bit for each granule.
 #![tactic(auto)]
 
-ghost use Rattle.std.specs.Prelude.{◌≡◌, true, ◌/◌, ◌<◌, ltb, eqb, length};
+ghost use Rattle.std.specs.Prelude.{◌≡◌, ◌/◌, ◌<◌, ltb, eqb, length};
 ghost use Rattle.words.specs.Tests.{both, Yes};
-ghost use Rattle.codes.specs.Codes.{is_up, answer_of};
+ghost use Rattle.codes.specs.Codes.{boot_params, gated, answer_of};
 ghost use Rattle.banks.specs.Banks.{Granules, granule_count, granule_at};
 ghost use Rattle.banks.specs.Fast.{has_one_bank};
 ghost use Rattle.realm_words.specs.Answers.{words_fit, words_code};
 ghost use Rattle.realm_words.specs.Bits.{realm_bit, put_bit};
 ghost use Rattle.granule_rules.specs.Granules.{table_of, move_of, delegate_of, undelegate_of, moved_to};
-ghost use Rattle.granule_rules.specs.Steps.{Inside, shared_code, move_at};
+ghost use Rattle.granule_rules.specs.Steps.{Inside, shared_code, move_at, MoveResult};
 ghost use Rattle.granule_rules.specs.Lists.{list_by, move_list_of, delegate_list_of, undelegate_list_of};
 
 use banks::GranulesImage;
@@ -35,24 +35,24 @@ fn move_at(
     table: &mut [u8],
     words: &mut [u64],
     address: u64,
-) -> Code
+) -> Result<(), Code>
     requires { Inside granule table.old words.old }
     ensures { (g : Granules) → granule ≡ granule_at g (length table.old) address →
-        moved_to (answer_of result 0 0) table.new words.new ≡ move_at params g direction (table_of table.old words.old) address }
+        MoveResult result table.new words.new (move_at params g direction (table_of table.old words.old) address) }
 {
     let Some(at) = granule else {
-        return Code::BadAddr; // no granule of the table
+        return Err(Code::BadAddr); // no granule of the table
     };
     if direction.is_shared_page(params, address) {
-        return Code::BadAddr;
+        return Err(Code::BadAddr);
     }
     if table[at] != direction.from_byte() {
-        return Code::BadPas;
+        return Err(Code::BadPas);
     }
     let to = direction.to_byte();
     table[at] = to;
     put_bit(words, at, to);
-    Code::Ok
+    Ok(())
 }
 
 // Whether the record has granules and the table has n = `count` bytes. Otherwise no address is on a granule.
@@ -62,21 +62,25 @@ fn table_fits(count: u64, n: usize) -> bool
     0 < count && count == n as u64
 }
 
-// Makes the checks that do not depend on the address, in order: the number of words, the boot record, the table's length.
-fn shared_code(state: Record, granules: &[u64; 33], n: usize, words: &[u64]) -> Code
-    ensures { result ≡ shared_code state granules.now n words.now }
+// Makes the checks that do not depend on the address, in order: the number of words, the boot record, the table's length. Returns what the
+// boot record keeps.
+fn shared_checks(
+    state: Record,
+    granules: &[u64; 33],
+    n: usize,
+    words: &[u64],
+) -> Result<Params, Code>
+    ensures { result ≡ gated (shared_code state granules.now n words.now) (boot_params state) }
 {
     let count = banks::granule_count(granules);
     if !realm_words::words_fit(words, count as usize) {
-        return Code::Inval;
+        return Err(Code::Inval);
     }
-    if !codes::is_up(state) {
-        return Code::Unk;
-    }
+    let params = codes::up_params(state)?;
     if !table_fits(count, n) {
-        return Code::BadAddr;
+        return Err(Code::BadAddr);
     }
-    Code::Ok
+    Ok(params)
 }
 
 // ---- a single call ----
@@ -88,25 +92,21 @@ fn move_one(
     table: &mut [u8],
     words: &mut [u64],
     address: u64,
-) -> Code
-    ensures { moved_to (answer_of result 0 0) table.new words.new ≡ move_of state granules.now direction (table_of table.old words.old) address }
+) -> Result<(), Code>
+    ensures { MoveResult result table.new words.new (move_of state granules.now direction (table_of table.old words.old) address) }
 {
-    let code = shared_code(state, granules, table.len(), words);
-    if !codes::is_ok(code) {
-        return code;
-    }
-    let params = codes::boot_params(state);
+    let params = shared_checks(state, granules, table.len(), words)?;
     let found = banks::find_from(granules, banks::no_bank(), address);
     move_at(params, found.granule, direction, table, words, address)
 }
 
 // ---- the shortcut for a single call: most boards have one bank ----
 
-// Whether the boot record is up, the granule record has one bank of `n` granules, and the number of words is right.
-fn takes_shortcut(state: Record, granules: &GranulesImage, n: usize, words: &[u64]) -> bool
-    ensures { result ≡ both (is_up state) (both (has_one_bank granules.now n) (words_fit words.now n)) }
+// Whether the granule record has one bank of `n` granules, and the number of words is right.
+fn takes_shortcut(granules: &GranulesImage, n: usize, words: &[u64]) -> bool
+    ensures { result ≡ both (has_one_bank granules.now n) (words_fit words.now n) }
 {
-    codes::is_up(state) && banks::has_one_bank(granules, n) && realm_words::words_fit(words, n)
+    banks::has_one_bank(granules, n) && realm_words::words_fit(words, n)
 }
 
 // `move_one` without loops over the banks.
@@ -117,13 +117,31 @@ fn move_shortcut(
     table: &mut [u8],
     words: &mut [u64],
     address: u64,
-) -> Code
-    requires { (is_up state ≡ true) × Yes (has_one_bank granules.now (length table.old)) × Yes (words_fit words.old (length table.old)) }
-    ensures { moved_to (answer_of result 0 0) table.new words.new ≡ move_of state granules.now direction (table_of table.old words.old) address }
+) -> Result<(), Code>
+    requires { Yes (has_one_bank granules.now (length table.old)) × Yes (words_fit words.old (length table.old)) }
+    ensures { MoveResult result table.new words.new (move_of state granules.now direction (table_of table.old words.old) address) }
 {
-    let params = codes::boot_params(state);
+    let params = codes::up_params(state)?;
     let granule = banks::find_first(granules, address);
     move_at(params, granule, direction, table, words, address)
+}
+
+// A call by the shortcut if the records and the words allow it.
+#[inline(always)]
+fn move_single(
+    state: Record,
+    granules: &GranulesImage,
+    direction: Direction,
+    table: &mut [u8],
+    words: &mut [u64],
+    address: u64,
+) -> Result<(), Code>
+    ensures { MoveResult result table.new words.new (move_of state granules.now direction (table_of table.old words.old) address) }
+{
+    if takes_shortcut(granules, table.len(), words) {
+        return move_shortcut(state, granules, direction, table, words, address);
+    }
+    move_one(state, granules, direction, table, words, address)
 }
 
 // A call in either direction. Each command gets a copy of its own: one copy for both took half as long again (docs/DECISIONS.md).
@@ -138,12 +156,10 @@ fn single(
 ) -> Answer
     ensures { moved_to result table.new words.new ≡ move_of state granules.now direction (table_of table.old words.old) address }
 {
-    if takes_shortcut(state, granules, table.len(), words) {
-        let code = move_shortcut(state, granules, direction, table, words, address);
-        return codes::answer_with(code, 0, 0);
+    match move_single(state, granules, direction, table, words, address) {
+        Ok(()) => Answer::ok(0, 0),
+        Err(code) => Answer::refused(code),
     }
-    let code = move_one(state, granules, direction, table, words, address);
-    codes::answer_with(code, 0, 0)
 }
 
 // ---- a list of calls ----
@@ -164,13 +180,12 @@ fn move_each(
     let mut bank = banks::no_bank();
     for (i, address) in addresses.iter().enumerate() {
         let found = banks::find_from(granules, bank, *address);
-        let code = move_at(params, found.granule, direction, table, words, *address);
-        if !codes::is_ok(code) {
+        if let Err(code) = move_at(params, found.granule, direction, table, words, *address) {
             return codes::answer_with(code, i as u64, 0);
         }
         bank = found.bank;
     }
-    codes::answer_with(Code::Ok, addresses.len() as u64, 0)
+    Answer::ok(addresses.len() as u64, 0)
 }
 
 // An empty list is OK if the number of words is right, even if the boot record is not up.
@@ -179,9 +194,9 @@ fn move_none(granules: &[u64; 33], words: &[u64]) -> Answer
 {
     let count = banks::granule_count(granules);
     if !realm_words::words_fit(words, count as usize) {
-        return codes::answer_with(Code::Inval, 0, 0);
+        return Answer::refused(Code::Inval);
     }
-    codes::answer_with(Code::Ok, 0, 0)
+    Answer::ok(0, 0)
 }
 
 fn move_list(
@@ -197,12 +212,10 @@ fn move_list(
     if addresses.is_empty() {
         return move_none(granules, words);
     }
-    let code = shared_code(state, granules, table.len(), words);
-    if !codes::is_ok(code) {
-        return codes::answer_with(code, 0, 0);
+    match shared_checks(state, granules, table.len(), words) {
+        Ok(params) => move_each(params, granules, direction, table, words, addresses),
+        Err(code) => Answer::refused(code),
     }
-    let params = codes::boot_params(state);
-    move_each(params, granules, direction, table, words, addresses)
 }
 
 // ---- the commands ----

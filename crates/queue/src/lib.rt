@@ -194,7 +194,7 @@ pub fn refused(code: Code, queue: Queue) -> QueueResult
     ensures { result ≡ record { answer = answer_of code 0 0; queue = queue } }
 {
     QueueResult {
-        answer: codes::answer_with(code, 0, 0),
+        answer: Answer::refused(code),
         queue,
     }
 }

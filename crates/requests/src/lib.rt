@@ -2,6 +2,7 @@
 #![tactic(auto)]
 
 ghost use Rattle.std.specs.Prelude.{◌≡◌, List, ℕ, ◌≤◌, length};
+ghost use Rattle.codes.specs.Codes.{gated};
 ghost use Rattle.queue.specs.Queue.{Lists, lists_of, signing_exit, exit_of};
 ghost use Rattle.queue_image.specs.OnImage.{ImageStep};
 ghost use Rattle.request_rules.specs.Push.{request_of, push_code, push_of};
@@ -45,20 +46,24 @@ fn request_of(buffer: &[u8]) -> Request
     }
 }
 
-// Returns the code of the push checks after the size check, for these ids and `waiting` requests.
-fn push_code(algorithm: u64, hashid: u64, waiting: usize) -> Code
-    ensures { (b : List ℕ) (q : Lists) → 80 ≤ length b → (request_of b).algorithm ≡ algorithm → (request_of b).hashid ≡ hashid → length q.requests ≡ waiting → result ≡ push_code b q }
+// Reads the request once and runs the push checks on that copy, with `waiting` requests (CM7.7 to CM7.10).
+fn checked_request(buffer: &[u8], waiting: usize) -> Result<Request, Code>
+    ensures { (q : Lists) → length q.requests ≡ waiting → result ≡ gated (push_code buffer.now q) (request_of buffer.now) }
 {
-    if algorithm != ALGORITHM_SECP384R1 {
-        return Code::Inval;
+    if buffer.len() < REQUEST_BYTES {
+        return Err(Code::Inval);
     }
-    if hashid != HASH_SHA2_384 {
-        return Code::Inval;
+    let request = request_of(buffer);
+    if request.algorithm != ALGORITHM_SECP384R1 {
+        return Err(Code::Inval);
+    }
+    if request.hashid != HASH_SHA2_384 {
+        return Err(Code::Inval);
     }
     if queue::PLACES <= waiting {
-        return Code::Again;
+        return Err(Code::Again);
     }
-    Code::Ok
+    Ok(request)
 }
 
 // Push: the request in the buffer joins the end of those that wait. Reads the request once and checks that copy, so a page that changes
@@ -66,24 +71,15 @@ fn push_code(algorithm: u64, hashid: u64, waiting: usize) -> Code
 pub fn push(buffer: &[u8], queue: Queue) -> QueueResult
     ensures { signing_exit result buffer.now ≡ exit_of queue (push_of buffer.now (lists_of queue)) }
 {
-    if buffer.len() < REQUEST_BYTES {
-        return queue::refused(Code::Inval, queue);
-    }
-    let request = request_of(buffer);
-    let checked = push_code(
-        request.algorithm,
-        request.hashid,
-        queue.requests.waiting().len(),
-    );
-    if !codes::is_ok(checked) {
-        return queue::refused(checked, queue);
-    }
-    QueueResult {
-        answer: codes::answer_with(Code::Ok, 0, 0),
-        queue: Queue {
-            requests: queue.requests.joined(request),
-            responses: queue.responses.after(0),
+    match checked_request(buffer, queue.requests.waiting().len()) {
+        Ok(request) => QueueResult {
+            answer: Answer::ok(0, 0),
+            queue: Queue {
+                requests: queue.requests.joined(request),
+                responses: queue.responses.after(0),
+            },
         },
+        Err(code) => queue::refused(code, queue),
     }
 }
 
@@ -92,18 +88,11 @@ pub fn push(buffer: &[u8], queue: Queue) -> QueueResult
 pub fn push_image(buffer: &[u8], image: &mut QueueImage) -> Answer
     ensures { ◌≡◌ {A = ImageStep} (record { answer = result; page = buffer.now; image = image.new }) (push_on buffer.now image.old) }
 {
-    if buffer.len() < REQUEST_BYTES {
-        return codes::answer_with(Code::Inval, 0, 0);
+    match checked_request(buffer, queue_image::requests_waiting(image)) {
+        Ok(request) => {
+            queue_image::add_request(image, request);
+            Answer::ok(0, 0)
+        }
+        Err(code) => Answer::refused(code),
     }
-    let request = request_of(buffer);
-    let code = push_code(
-        request.algorithm,
-        request.hashid,
-        queue_image::requests_waiting(image),
-    );
-    if !codes::is_ok(code) {
-        return codes::answer_with(code, 0, 0);
-    }
-    queue_image::add_request(image, request);
-    codes::answer_with(Code::Ok, 0, 0)
 }

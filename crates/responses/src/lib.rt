@@ -3,6 +3,7 @@
 
 ghost use Rattle.std.specs.Prelude.{◌≡◌, ◌+◌, ◌≤◌, length};
 ghost use Rattle.words.specs.Word.{splice};
+ghost use Rattle.codes.specs.Codes.{gated};
 ghost use Rattle.queue.specs.Queue.{Lists, signed_in, lists_of, oldest_response, signing_exit, exit_of};
 ghost use Rattle.queue_image.specs.OnImage.{ImageStep};
 ghost use Rattle.response_rules.specs.Pull.{response_bytes, pull_code, pull_of};
@@ -35,18 +36,18 @@ fn put_response(buffer: &mut [u8], response: Response)
     words::copy(&mut buffer[RESPONSE_SIGNATURE..], &signature[..n]);
 }
 
-// Returns the code of the pull checks for a buffer of `size` bytes, `waiting` responses and an oldest signature of `len` bytes.
-fn pull_code(size: usize, waiting: usize, len: usize) -> Code
+// Runs the pull checks for a buffer of `size` bytes, `waiting` responses and an oldest signature of `len` bytes.
+fn pull_checks(size: usize, waiting: usize, len: usize) -> Result<(), Code>
     requires { len ≤ 104 }
-    ensures { (q : Lists) → length q.responses ≡ waiting → ((length q.responses ≡ 0 → ⊥) → length (oldest_response q.responses).signature ≡ len) → result ≡ pull_code size q }
+    ensures { (q : Lists) → length q.responses ≡ waiting → ((length q.responses ≡ 0 → ⊥) → length (oldest_response q.responses).signature ≡ len) → result ≡ gated (pull_code size q) tt }
 {
     if waiting == 0 {
-        return Code::Again;
+        return Err(Code::Again);
     }
     if size < RESPONSE_SIGNATURE + len {
-        return Code::Inval;
+        return Err(Code::Inval);
     }
-    Code::Ok
+    Ok(())
 }
 
 // Pull: writes the oldest response into the buffer and drops it; keeps a response that does not fit.
@@ -55,17 +56,18 @@ pub fn pull(buffer: &mut [u8], queue: Queue) -> QueueResult
 {
     let response = queue.responses.oldest();
     let len = queue::signature_len(response);
-    let checked = pull_code(buffer.len(), queue.responses.waiting().len(), len);
-    if !codes::is_ok(checked) {
-        return queue::refused(checked, queue);
-    }
-    put_response(buffer, response);
-    QueueResult {
-        answer: codes::answer_with(Code::Ok, 0, 0),
-        queue: Queue {
-            requests: queue.requests.after(0),
-            responses: queue.responses.after(1),
-        },
+    match pull_checks(buffer.len(), queue.responses.waiting().len(), len) {
+        Ok(()) => {
+            put_response(buffer, response);
+            QueueResult {
+                answer: Answer::ok(0, 0),
+                queue: Queue {
+                    requests: queue.requests.after(0),
+                    responses: queue.responses.after(1),
+                },
+            }
+        }
+        Err(code) => queue::refused(code, queue),
     }
 }
 
@@ -84,45 +86,44 @@ fn response_of(granule: u64, ticket: u64, signature: &[u8]) -> Response
     }
 }
 
-// Returns the code of the signer's checks if `requests` requests and `responses` responses wait.
-fn sign_code(signature: &[u8], requests: usize, responses: usize) -> Code
-    ensures { (q : Lists) → length q.requests ≡ requests → length q.responses ≡ responses → result ≡ sign_code q signature.now }
+// Runs the signer's checks if `requests` requests and `responses` responses wait.
+fn sign_checks(signature: &[u8], requests: usize, responses: usize) -> Result<(), Code>
+    ensures { (q : Lists) → length q.requests ≡ requests → length q.responses ≡ responses → result ≡ gated (sign_code q signature.now) tt }
 {
     if signature.len() == 0 {
-        return Code::Inval;
+        return Err(Code::Inval);
     }
     if queue::SIGNATURE_BYTES < signature.len() {
-        return Code::Inval;
+        return Err(Code::Inval);
     }
     if requests == 0 {
-        return Code::Again;
+        return Err(Code::Again);
     }
     if queue::PLACES <= responses {
-        return Code::Again;
+        return Err(Code::Again);
     }
-    Code::Ok
+    Ok(())
 }
 
 // The signer's own step (SQ2): the oldest request becomes the newest response, with the signature that the signer lends.
 pub fn sign(queue: Queue, signature: &[u8]) -> QueueResult
     ensures { result ≡ sign_exit queue (sign_of (lists_of queue) signature.now) }
 {
-    let checked = sign_code(
-        signature,
-        queue.requests.waiting().len(),
-        queue.responses.waiting().len(),
-    );
-    if !codes::is_ok(checked) {
-        return queue::refused(checked, queue);
-    }
-    let oldest = queue.requests.oldest();
-    let response = response_of(oldest.granule, oldest.ticket, signature);
-    QueueResult {
-        answer: codes::answer_with(Code::Ok, 0, 0),
-        queue: Queue {
-            requests: queue.requests.after(1),
-            responses: queue.responses.joined(response),
-        },
+    let requests = queue.requests.waiting().len();
+    let responses = queue.responses.waiting().len();
+    match sign_checks(signature, requests, responses) {
+        Ok(()) => {
+            let oldest = queue.requests.oldest();
+            let response = response_of(oldest.granule, oldest.ticket, signature);
+            QueueResult {
+                answer: Answer::ok(0, 0),
+                queue: Queue {
+                    requests: queue.requests.after(1),
+                    responses: queue.responses.joined(response),
+                },
+            }
+        }
+        Err(code) => queue::refused(code, queue),
     }
 }
 
@@ -132,13 +133,14 @@ pub fn pull_image(buffer: &mut [u8], image: &mut QueueImage) -> Answer
 {
     let waiting = queue_image::responses_waiting(image);
     let len = queue_image::front_len(image);
-    let code = pull_code(buffer.len(), waiting, len);
-    if !codes::is_ok(code) {
-        return codes::answer_with(code, 0, 0);
+    match pull_checks(buffer.len(), waiting, len) {
+        Ok(()) => {
+            put_response(buffer, queue_image::front_response(image));
+            queue_image::remove_response(image);
+            Answer::ok(0, 0)
+        }
+        Err(code) => Answer::refused(code),
     }
-    put_response(buffer, queue_image::front_response(image));
-    queue_image::remove_response(image);
-    codes::answer_with(Code::Ok, 0, 0)
 }
 
 // The signer's own step on the queue's image.
@@ -147,12 +149,14 @@ pub fn sign_image(image: &mut QueueImage, signature: &[u8]) -> Answer
 {
     let requests = queue_image::requests_waiting(image);
     let responses = queue_image::responses_waiting(image);
-    let code = sign_code(signature, requests, responses);
-    if !codes::is_ok(code) {
-        return codes::answer_with(code, 0, 0);
+    match sign_checks(signature, requests, responses) {
+        Ok(()) => {
+            let oldest = queue_image::front_request(image);
+            let response = response_of(oldest.granule, oldest.ticket, signature);
+            queue_image::add_response(image, response);
+            queue_image::remove_request(image);
+            Answer::ok(0, 0)
+        }
+        Err(code) => Answer::refused(code),
     }
-    let oldest = queue_image::front_request(image);
-    queue_image::add_response(image, response_of(oldest.granule, oldest.ticket, signature));
-    queue_image::remove_request(image);
-    codes::answer_with(Code::Ok, 0, 0)
 }

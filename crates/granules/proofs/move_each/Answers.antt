@@ -3,9 +3,10 @@ use native.Mathlib.Omega.{arith}
 use lib.ListN.{length}
 use Rattle.banks.specs.Banks.{granule_count}
 use Rattle.banks.proofs.Fast.{none-span, found-is}
+use Rattle.codes.specs.declared.Code.TheVariants.{Ok}
 use Rattle.granule_rules.specs.Granules.{table_of, moved_to}
 use Rattle.granule_rules.specs.Steps.{move_at}
-use Rattle.granule_rules.proofs.Moving.{granule-inside, fit-long, told-lengths}
+use Rattle.granule_rules.proofs.Moving.{granule-inside, fit-long, told-lengths, moved-ok, moved-err, at-zeros}
 use Rattle.granule_rules.proofs.Lists.{told-last, told_more, told-stop}
 use borrow.Author.Rules.{rules}
 use Rattle.granules.proofs.move_each.Goals as goal
@@ -15,8 +16,8 @@ loop-i-init c =
     let a = c.args in
     (search rules, refl, refl, rw c.no_bank-bank.ensures (none-span a.granules.now), refl)
 
-pub move_at-code-requires : goal.move_at-code-requires
-move_at-code-requires c =
+pub move_at-requires : goal.move_at-requires
+move_at-requires c =
     let l = c.loop-i in
     let a = c.args in
     let k = found-is a.granules.now l.bank (length l.table) _ c.find_from-found.result c.requires.0 (c.requires.1 ∙ sym l.invariant.1)
@@ -24,17 +25,15 @@ move_at-code-requires c =
     granule-inside a.granules.now l.table l.words _ _
     (fit-long l.words a.words.now (granule_count a.granules.now) l.invariant.2 c.requires.2) k.0
 
-pub returns-then-not-is_ok : goal.returns-then-not-is_ok
-returns-then-not-is_ok c =
+pub returns-in-Err : goal.returns-in-Err
+returns-in-Err c =
     let l = c.loop-i in
     let a = c.args in
     let k = found-is a.granules.now l.bank (length l.table) _ c.find_from-found.result c.requires.0 (c.requires.1 ∙ sym l.invariant.1)
     l.invariant.3 c.find_from-found.ensures in
+    let m = moved-err _ _ _ (at-zeros a.params a.granules.now a.direction (table_of l.table l.words) _) _ (c.in-Err.ensures a.granules.now k.0) in
     told-stop (move_at a.params a.granules.now a.direction) a.addresses.now l.i (table_of l.table l.words) _
-    l.invariant.4
-    c.loop-i-test.true _ _ _ (c.move_at-code.ensures a.granules.now k.0) _ c.is_ok.ensures
-    (c.if-not-is_ok.true)
-    _ c.answer_with.ensures
+    l.invariant.4 c.loop-i-test.true _ _ _ m.0 _ refl m.1 _ c.answer_with.ensures
 
 pub overflow_step-i : goal.overflow_step-i
 overflow_step-i c =
@@ -47,7 +46,7 @@ loop-i-preserved c =
     let a = c.args in
     let k = found-is a.granules.now l.bank (length l.table) _ c.find_from-found.result c.requires.0 (c.requires.1 ∙ sym l.invariant.1)
     l.invariant.3 c.find_from-found.ensures in
-    let e = c.move_at-code.ensures a.granules.now k.0 in
+    let e = moved-ok _ _ _ (at-zeros a.params a.granules.now a.direction (table_of l.table l.words) _) (c.in_default.ensures a.granules.now k.0) in
     let n = told-lengths a.params a.granules.now a.direction (table_of l.table l.words) _ _ e in (
       search rules,
       n.0 ∙ l.invariant.1,
@@ -55,7 +54,7 @@ loop-i-preserved c =
       k.1,
       told_more (move_at a.params a.granules.now a.direction) a.addresses.now l.i (table_of l.table l.words) _
           l.invariant.4
-          (search rules) _ _ _ e _ c.is_ok.ensures (c.if-not-is_ok.false),
+          (search rules) Ok _ _ e _ refl refl,
     )
 
 pub returns : goal.returns
@@ -64,4 +63,4 @@ returns c =
     let l = c.loop-i in
     let a = c.args in
     told-last (move_at a.params a.granules.now a.direction) a.addresses.now l.i (table_of l.table l.words) _
-    l.invariant.4 (omega arith) _ c.answer_with-2.ensures
+    l.invariant.4 (omega arith) _ c.ok.ensures

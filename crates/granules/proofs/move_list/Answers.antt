@@ -1,5 +1,9 @@
-use mathlib.Core.Path.{sym, ◌∙◌}
+use mathlib.Core.Path.{refl, sym, ◌∙◌}
+use lib.ListN.{length}
+use Rattle.codes.specs.Codes.{boot_params}
+use Rattle.codes.proofs.Gates.{went, stood}
 use Rattle.granule_rules.specs.Granules.{table_of}
+use Rattle.granule_rules.specs.Steps.{shared_code}
 use Rattle.granule_rules.proofs.Moving.{shared-passed}
 use Rattle.granule_rules.proofs.Lists.{told-list, list-none, list-refused}
 use borrow.Author.Tests.{eqb-false}
@@ -12,24 +16,27 @@ returns-then-is_empty c =
     list-none a.state a.granules.now a.direction (table_of a.table.now a.words.now) a.addresses.now
     (search rules) _ c.move_none.ensures
 
-pub returns-then-not-is_ok : goal.returns-then-not-is_ok
-returns-then-not-is_ok c =
+pub returns-in-Err : goal.returns-in-Err
+returns-in-Err c =
     let a = c.args in
-    list-refused a.state a.granules.now a.direction (table_of a.table.now a.words.now) _ c.shared_code-code.ensures
-    (sym c.is_ok.ensures ∙ c.if-not-is_ok.true)
-    a.addresses.now (eqb-false _ _ (sym c.is_empty.ensures ∙ c.if-is_empty.false)) _ c.answer_with.ensures
+    let t = table_of a.table.now a.words.now in
+    let g = stood (shared_code a.state a.granules.now (length t.bytes) t.words) (boot_params a.state) _ (sym c.in-Err.ensures) in
+    list-refused a.state a.granules.now a.direction t _ (sym g.0) g.1
+    a.addresses.now (eqb-false _ _ (sym c.is_empty.ensures ∙ c.if-is_empty.false)) _ c.refused.ensures
 
 pub move_each-requires : goal.move_each-requires
 move_each-requires c =
     let a = c.args in
-    let p = shared-passed a.state a.granules.now (table_of a.table.now a.words.now) _ c.shared_code-code.ensures
-    (sym c.is_ok.ensures ∙ c.if-not-is_ok.false) in
+    let t = table_of a.table.now a.words.now in
+    let g = went (shared_code a.state a.granules.now (length t.bytes) t.words) (boot_params a.state) _ (sym c.in-Ok.ensures) in
+    let p = shared-passed a.state a.granules.now t _ (sym g.0) refl in
     (p.some, p.count, p.fit)
 
-pub returns : goal.returns
-returns c =
+pub returns-in-Ok : goal.returns-in-Ok
+returns-in-Ok c =
     let a = c.args in
-    let p = shared-passed a.state a.granules.now (table_of a.table.now a.words.now) _ c.shared_code-code.ensures
-    (sym c.is_ok.ensures ∙ c.if-not-is_ok.false) in
-    told-list a.state a.granules.now a.direction (table_of a.table.now a.words.now)
-    p.fit p.up _ c.boot_params-params.ensures a.addresses.now _ c.move_each.ensures
+    let t = table_of a.table.now a.words.now in
+    let g = went (shared_code a.state a.granules.now (length t.bytes) t.words) (boot_params a.state) _ (sym c.in-Ok.ensures) in
+    let p = shared-passed a.state a.granules.now t _ (sym g.0) refl in
+    told-list a.state a.granules.now a.direction t
+    p.fit p.up _ g.1 a.addresses.now _ c.move_each.ensures

@@ -1,15 +1,14 @@
-use mathlib.Core.Path.{sym, ◌∙◌}
-use Rattle.words.proofs.Tests.{both_l, both_r}
+use Rattle.granule_rules.specs.Granules.{table_of}
+use Rattle.granule_rules.proofs.Moving.{moved-ok, moved-err, of-zeros}
 use Rattle.granules.proofs.single.Goals as goal
 
-pub move_shortcut-code-requires : goal.move_shortcut-code-requires
-move_shortcut-code-requires c =
-    let y = sym c.takes_shortcut.ensures ∙ c.if-takes_shortcut.true in
-    let r = both_r _ _ y in
-    (both_l _ _ y, both_l _ _ r, both_r _ _ r)
+pub returns-in-Ok : goal.returns-in-Ok
+returns-in-Ok c =
+    let a = c.args in
+    rw c.ok.ensures (moved-ok _ _ _ (of-zeros a.state a.granules.now a.direction (table_of a.table.now a.words.now) a.address) c.in-Ok.ensures)
 
-pub returns-then-takes_shortcut : goal.returns-then-takes_shortcut
-returns-then-takes_shortcut c = rw c.answer_with.ensures c.move_shortcut-code.ensures
-
-pub returns : goal.returns
-returns c = rw c.answer_with-2.ensures c.move_one-code.ensures
+pub returns-in-Err : goal.returns-in-Err
+returns-in-Err c =
+    let a = c.args in
+    rw c.refused.ensures (moved-err _ _ _ (of-zeros a.state a.granules.now a.direction (table_of a.table.now a.words.now) a.address) _
+    c.in-Err.ensures).0
