@@ -3,7 +3,7 @@
 
 mod descriptor;
 
-ghost use Rattle.std.specs.Prelude.{◌≡◌, min, ◌≤◌, ◌<◌};
+ghost use Rattle.std.specs.Prelude.{◌≡◌, min, ◌≤◌, ◌<◌, drop};
 ghost use Rattle.io.specs.Counts.{IsPrefixLen};
 ghost use Rattle.std.specs.Str.{IsUtf8};
 ghost use Rattle.words.specs.Word.{word_at};
@@ -46,11 +46,31 @@ pub fn load(rt: &impl Files<File = File>, n: u64, input: &mut [u8]) -> usize
     length
 }
 
+// Calls `show` with the bytes of each case in turn, c000 first, up to the first number without a case. `input` holds one case at a time.
+pub fn each_case<F: FnMut(&mut [u8])>(rt: &impl Files<File = File>, input: &mut [u8], mut show: F)
+    requires { F.IsAlwaysCallable show }
+{
+    for n in 0..1000u64 {
+        let length = load(rt, n, input);
+        if length == 0 {
+            return;
+        }
+        show(&mut input[..length]);
+    }
+}
+
 // min(the word at offset `at`, most).
 pub fn length_at(input: &[u8], at: usize, most: usize) -> usize
     ensures { (result ≡ min (word_at at input.now) most) × (result ≤ most) }
 {
-    words::smaller(words::word_at(input, at), most as u64) as usize
+    words::word_at(input, at).min(most as u64) as usize
+}
+
+// The bytes from offset `at` to the end, none if `at` is past the end.
+pub fn behind(input: &[u8], at: usize) -> &[u8]
+    ensures { result.now ≡ drop at input.now }
+{
+    input.get(at..).unwrap_or(&[])
 }
 
 // The granule record of a case. The word at `at` is its offset; at this offset is the number n of words given, then n words. The others
@@ -61,9 +81,7 @@ pub fn granules_at(input: &[u8], at: usize) -> [u64; 33]
     let from = length_at(input, at, 40000);
     let given = length_at(input, from, 33);
     let mut granules = [0u64; 33];
-    for i in 0..given {
-        granules[i] = words::word_at(input, from + 8 + 8 * i);
-    }
+    read_words(behind(input, from + 8), &mut granules[..given]);
     granules
 }
 
@@ -82,8 +100,8 @@ pub fn read_words(bytes: &[u8], list: &mut [u64])
     if 600 < list.len() {
         return;
     }
-    for i in 0..list.len() {
-        list[i] = words::word_at(bytes, 8 * i);
+    for (i, word) in list.iter_mut().enumerate() {
+        *word = words::word_at(bytes, 8 * i);
     }
 }
 
@@ -102,8 +120,8 @@ pub fn fill_words(input: &[u8], at: usize, list: &mut [u64])
 // Prints a list of words on one line.
 pub fn print_words(list: &[u64]) {
     io::write_all(STDOUT, b"words");
-    for i in 0..list.len() {
-        print_word(list[i]);
+    for word in list {
+        print_word(*word);
     }
     io::write_all(STDOUT, b"\n");
 }
@@ -112,15 +130,7 @@ pub fn print_words(list: &[u64]) {
 pub fn same(a: &[u8], b: &[u8]) -> bool
     ensures { result ≡ same_bytes a.now b.now }
 {
-    if a.len() != b.len() {
-        return false;
-    }
-    for i in 0..a.len() {
-        if a[i] != b[i] {
-            return false;
-        }
-    }
-    true
+    a == b
 }
 
 // Prints the name `what`, and whether `held` equals `expected`.
@@ -140,10 +150,10 @@ pub fn mark(part: &[u8]) -> u64
 {
     let mut high = part.len() as u64 % 0xFFFF_FFFB;
     let mut low = high;
-    for i in 0..part.len() {
-        let byte = words::widen(part[i]);
-        high = (high * 0x9E37_79B1 + byte) % 0xFFFF_FFFB;
-        low = (low * 0x85EB_CA77 + byte) % 0xFFFF_FFFB;
+    for byte in part {
+        let digit = u64::from(*byte);
+        high = (high * 0x9E37_79B1 + digit) % 0xFFFF_FFFB;
+        low = (low * 0x85EB_CA77 + digit) % 0xFFFF_FFFB;
     }
     high * 0x1_0000_0000 + low
 }
@@ -155,21 +165,19 @@ pub fn print_word(x: u64) {
 }
 
 // The boot record at the start of a case: word 0 is 1 for up (words 1 to 4 are its values), 2 for closed, any other number for fresh.
+#[tactic(auto, unfolding(crate::specs::Cases::record_at))]
 pub fn record_at(input: &[u8]) -> Record
     ensures { result ≡ record_at input.now }
 {
-    let state = words::word_at(input, 0);
     let params = Params {
         cpus: words::word_at(input, 8),
         base: words::word_at(input, 16),
         minor: words::word_at(input, 24),
         kept: words::word_at(input, 32),
     };
-    if state == 1 {
-        return Record::Up(params);
+    match words::word_at(input, 0) {
+        1 => Record::Up(params),
+        2 => Record::Closed,
+        _ => Record::fresh(),
     }
-    if state == 2 {
-        return Record::Closed;
-    }
-    Record::fresh()
 }
