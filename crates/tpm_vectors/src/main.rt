@@ -91,7 +91,7 @@ fn print_calls(input: &[u8], memory: &mut [u8], response: &mut [u8]) {
     if words::word_at(input, 16) != 0 {
         session = TpmSession::Open;
     }
-    for call in input.get(24..).unwrap_or(&[]).chunks(72) {
+    for call in vector_io::behind(input, 24).chunks(72) {
         session = print_call(session, call, memory, response);
     }
 }

@@ -50,6 +50,7 @@ pub fn load(rt: &impl Files<File = File>, n: u64, input: &mut [u8]) -> usize
 pub fn each_case<F: FnMut(&mut [u8])>(rt: &impl Files<File = File>, input: &mut [u8], mut show: F)
     requires { F.IsAlwaysCallable show }
 {
+    // Counted: `n` is the number in a file's name, and no list holds the files.
     for n in 0..1000u64 {
         let length = load(rt, n, input);
         if length == 0 {
