@@ -35,26 +35,12 @@ fn print_record(state: Record) {
     }
 }
 
-// A code without its sign.
-fn magnitude(code: i32) -> u64 {
-    match code {
-        -1 => 1,
-        -2 => 2,
-        -3 => 3,
-        -4 => 4,
-        -5 => 5,
-        -6 => 6,
-        -7 => 7,
-        _ => 0,
-    }
-}
-
 fn print_code(code: i32) {
     io::write_all(STDOUT, b"code ");
     if code < 0 {
         io::write_all(STDOUT, b"-");
     }
-    io::print_decimal(STDOUT, magnitude(code));
+    io::print_decimal(STDOUT, u64::from(code.unsigned_abs()));
 }
 
 // Boots with the registers of the step at offset `at` of the case.
@@ -100,6 +86,7 @@ fn print_case(input: &[u8]) {
     let steps = vector_io::length_at(input, 40, 20);
     let mut state = vector_io::record_at(input);
     let mut at: usize = 48;
+    // Counted: a step starts where the step before it ended, and there is no list of them.
     for i in 0..steps {
         let done = step(state, input, at);
         state = done.next;
@@ -109,11 +96,5 @@ fn print_case(input: &[u8]) {
 
 fn main(rt: HostRuntime) {
     let mut input = [0u8; 32768];
-    for n in 0..1000u64 {
-        let length = vector_io::load(&rt, n, &mut input);
-        if length == 0 {
-            return;
-        }
-        print_case(&input[..length]);
-    }
+    vector_io::each_case(&rt, &mut input, |case| print_case(case));
 }

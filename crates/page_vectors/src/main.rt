@@ -8,17 +8,9 @@ use reader::Refusal;
 use vector_io::STDOUT;
 
 fn print_refused(code: Refusal) {
-    match code {
-        Refusal::Place => {
-            io::write_all(STDOUT, b"refused -5\n");
-        }
-        Refusal::Version => {
-            io::write_all(STDOUT, b"refused -6\n");
-        }
-        Refusal::Rules => {
-            io::write_all(STDOUT, b"refused -7\n");
-        }
-    }
+    io::write_all(STDOUT, b"refused -");
+    io::print_decimal(STDOUT, u64::from(i32::from(code).unsigned_abs()));
+    io::write_all(STDOUT, b"\n");
 }
 
 fn print_mark(name: &[u8], page: &[u8]) {
@@ -103,21 +95,7 @@ fn print_case(input: &mut [u8]) {
     print_packed(&input[32..], base, &mut room[..n]);
 }
 
-// Runs case `n`. Returns false if there is no such case.
-fn print_numbered(rt: &HostRuntime, n: u64) -> bool {
-    let mut input = [0u8; 8225];
-    let length = vector_io::load(rt, n, &mut input);
-    if length == 0 {
-        return false;
-    }
-    print_case(&mut input[..length]);
-    true
-}
-
 fn main(rt: HostRuntime) {
-    for n in 0..1000u64 {
-        if !print_numbered(&rt, n) {
-            return;
-        }
-    }
+    let mut input = [0u8; 8225];
+    vector_io::each_case(&rt, &mut input, |case| print_case(case));
 }

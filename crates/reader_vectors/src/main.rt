@@ -56,13 +56,12 @@ fn print_fields(page: &[u8], view: View) {
     let n = field_lookup::field_count(page, view);
     print_number(b"fields", n as u64);
     io::write_all(STDOUT, b"\n");
-    for tag in 0..5u8 {
+    for tag in [0, 1, 2, 3, 4, 255] {
         print_tag(page, view, tag);
     }
-    print_tag(page, view, 255);
-    print_index(page, view, 0);
-    print_index(page, view, n / 2);
-    print_index(page, view, n);
+    for i in [0, n / 2, n] {
+        print_index(page, view, i);
+    }
 }
 
 // Prints the index of the first console with a name.
@@ -89,6 +88,7 @@ fn print_case(edition: u64, base: u64, page: &[u8]) {
     let mut out = [0u8; 16384];
     let n = text::list(page, base, edition, &mut out);
     io::write_all(STDOUT, &out[..n]);
+    // Counted: `k` is a section's number, as `lookup::array` takes it; no list is indexed.
     for k in 0..5usize {
         print_array(page, base, edition, k);
     }
@@ -112,11 +112,5 @@ fn print_input(input: &[u8]) {
 
 fn main(rt: HostRuntime) {
     let mut input = [0u8; 8209];
-    for n in 0..1000u64 {
-        let length = vector_io::load(&rt, n, &mut input);
-        if length == 0 {
-            return;
-        }
-        print_input(&input[..length]);
-    }
+    vector_io::each_case(&rt, &mut input, |case| print_input(case));
 }

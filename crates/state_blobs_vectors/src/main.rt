@@ -88,11 +88,7 @@ fn print_call(
     let end = 64 + vector_io::length_at(call, 48, 96);
     let answer = make(call, &call[64..end], &mut buffer[..room], image, parts, len);
     print_left(answer, image, parts, *len);
-    if vector_io::same(buffer, expected) {
-        io::write_all(STDOUT, b" buffer as expected\n");
-    } else {
-        io::write_all(STDOUT, b" buffer not as expected\n");
-    }
+    vector_io::print_same(b" buffer", buffer, expected);
 }
 
 fn print_case(input: &[u8]) {
@@ -107,11 +103,5 @@ fn print_case(input: &[u8]) {
 
 fn main(rt: HostRuntime) {
     let mut input = [0u8; 65536];
-    for n in 0..1000u64 {
-        let length = vector_io::load(&rt, n, &mut input);
-        if length == 0 {
-            return;
-        }
-        print_case(&input[..length]);
-    }
+    vector_io::each_case(&rt, &mut input, |case| print_case(case));
 }

@@ -4,8 +4,6 @@
 // the place of the request and its digest, r3, r4, the session and the memory's digest.
 #![tactic(auto)]
 
-ghost use Rattle.std.specs.Prelude.{◌<◌, ◌≤◌};
-
 use tpm::{Arguments, CommResult, TpmSession};
 use vector_io::STDOUT;
 
@@ -30,7 +28,7 @@ fn times_prime(x: u64) -> u64 {
 fn digest(s: &[u8]) -> u64 {
     let mut x: u64 = 0xCBF2_9CE4_8422_2325;
     for byte in s {
-        x = times_prime(x ^ words::widen(*byte));
+        x = times_prime(x ^ u64::from(*byte));
     }
     x
 }
@@ -40,20 +38,15 @@ fn print_word(what: &[u8], x: u64) {
     io::print_hex(STDOUT, x, 1);
 }
 
-fn session_number(session: TpmSession) -> u64 {
-    match session {
-        TpmSession::None => 0,
-        TpmSession::Open => 1,
-    }
-}
-
 fn print_returned(returned: CommResult) {
     let code = returned.code;
-    let session = returned.session;
     io::write_all(STDOUT, b" r3 -");
     io::print_decimal(STDOUT, i64::from(code).unsigned_abs());
     print_word(b" r4 ", returned.r4);
-    print_word(b" session ", session_number(session));
+    print_word(
+        b" session ",
+        u64::from(returned.session == TpmSession::Open),
+    );
 }
 
 fn print_request(asked: Arguments, memory: &[u8], forbidden: bool) {
@@ -63,33 +56,28 @@ fn print_request(asked: Arguments, memory: &[u8], forbidden: bool) {
     print_word(b" ", digest(tpm::request(asked, memory, forbidden)));
 }
 
-fn arguments_at(input: &[u8], at: usize) -> Arguments
-    requires { at ≤ 65536 }
-{
+fn arguments_of(call: &[u8]) -> Arguments {
     Arguments {
-        operation: words::word_at(input, at),
-        inbuffer: words::word_at(input, at + 8),
-        insize: words::word_at(input, at + 16),
-        outbuffer: words::word_at(input, at + 24),
-        outsize: words::word_at(input, at + 32),
+        operation: words::word_at(call, 0),
+        inbuffer: words::word_at(call, 8),
+        insize: words::word_at(call, 16),
+        outbuffer: words::word_at(call, 24),
+        outsize: words::word_at(call, 32),
     }
 }
 
-// Runs the call at offset `at` of the case. Returns the session after it.
+// Runs a call of the case. Returns the session after it.
 fn print_call(
     session: TpmSession,
-    input: &[u8],
-    at: usize,
+    call: &[u8],
     memory: &mut [u8],
     response: &mut [u8],
-) -> TpmSession
-    requires { at ≤ 65536 }
-{
-    let asked = arguments_at(input, at);
-    let n = vector_io::length_at(input, at + 40, response.len());
-    let forbidden = words::word_at(input, at + 56) != 0;
-    let fault = words::word_at(input, at + 64) != 0;
-    fill(&mut response[..n], words::word_at(input, at + 48));
+) -> TpmSession {
+    let asked = arguments_of(call);
+    let n = vector_io::length_at(call, 40, response.len());
+    let forbidden = words::word_at(call, 56) != 0;
+    let fault = words::word_at(call, 64) != 0;
+    fill(&mut response[..n], words::word_at(call, 48));
     print_request(asked, memory, forbidden);
     let returned = tpm::comm(session, asked, memory, &response[..n], forbidden, fault);
     print_returned(returned);
@@ -103,12 +91,8 @@ fn print_calls(input: &[u8], memory: &mut [u8], response: &mut [u8]) {
     if words::word_at(input, 16) != 0 {
         session = TpmSession::Open;
     }
-    for k in 0..900usize {
-        let at = 24 + 72 * k;
-        if input.len() <= at {
-            return;
-        }
-        session = print_call(session, input, at, memory, response);
+    for call in vector_io::behind(input, 24).chunks(72) {
+        session = print_call(session, call, memory, response);
     }
 }
 
@@ -126,11 +110,5 @@ fn print_case(input: &[u8]) {
 
 fn main(rt: HostRuntime) {
     let mut input = [0u8; 32768];
-    for n in 0..1000u64 {
-        let length = vector_io::load(&rt, n, &mut input);
-        if length == 0 {
-            return;
-        }
-        print_case(&input[..length]);
-    }
+    vector_io::each_case(&rt, &mut input, |case| print_case(case));
 }

@@ -1,37 +1,23 @@
--- The loop that compares two slices of bytes. Assumes nothing.
-use Prim.Native.Nat.{ℕ, ◌+◌, ◌<◌}
-use mathlib.Core.Path.{◌≡◌}
-use mathlib.Core.Bool.{true, false}
-use mathlib.Core.List.{List}
-use lib.ListN.{length, get_or}
-use lib.Dec.{eqb}
-use borrow.Author.Tests.{eq-eqb, ne_eqb}
-use Rattle.words.specs.Tests.{both}
-use Rattle.words.proofs.Tests.{every-none, every_more, every-not}
+-- Slices that have equal length and equal bytes are the same list. Assumes nothing.
+use Rattle.std.proofs.Common.{◌≡◌, ℕ, List, true, refl, sym, subst, length, get_or, eqb}
+use Rattle.std.specs.Bool.{Decides}
+use Rattle.std.proofs.lemmas.Bool.Decides.{Decides-eqb}
+use Rattle.std.proofs.lemmas.Grind.{same_number_lists}
+use Rattle.words.proofs.Tests.{both_l, both_r, both_of, every-at, every_of}
 use Rattle.vector_io.specs.Cases.{same_to, same_bytes}
 
 module _ (a b : List ℕ) where
-  pub same_none : same_to 0 a b ≡ true
-  unfolding same_to
-  same_none = every-none (λ i. eqb (get_or a i 0) (get_or b i 0))
+  told : same_bytes a b ≡ true → a ≡ b
+  unfolding same_bytes same_to
+  told h =
+      let l : length a ≡ length b = (Decides-eqb (length a) (length b)).0 (both_l _ _ h) in
+      same_number_lists a b l (λ k p. (Decides-eqb _ _).0 (every-at (length a) (λ i. eqb (get_or a i 0) (get_or b i 0)) (both_r _ _ h) k p))
 
-  pub same_more : (i : ℕ) → same_to i a b ≡ true → get_or a i 0 ≡ get_or b i 0 → same_to (i + 1) a b ≡ true
-  unfolding same_to
-  same_more i p q = every_more i (λ i. eqb (get_or a i 0) (get_or b i 0)) p (eq-eqb (get_or a i 0) (get_or b i 0) q)
+  itself : same_bytes b b ≡ true
+  unfolding same_bytes same_to
+  itself =
+      both_of _ _ ((Decides-eqb (length b) (length b)).1 refl)
+      (every_of (length b) (λ i. eqb (get_or b i 0) (get_or b i 0)) (λ i p. (Decides-eqb (get_or b i 0) (get_or b i 0)).1 refl))
 
-  pub same_not : (i : ℕ) → length a ≡ length b → i < length a → (get_or a i 0 ≡ get_or b i 0 → ⊥) → false ≡ same_bytes a b
-  unfolding same_bytes same_to both
-  same_not i l h q =
-      rw (
-        eq-eqb (length a) (length b) l,
-        every-not (length a) (λ i. eqb (get_or a i 0) (get_or b i 0)) i h
-            (ne_eqb (get_or a i 0) (get_or b i 0) q),
-      )
-
-  pub same_length : (length a ≡ length b → ⊥) → false ≡ same_bytes a b
-  unfolding same_bytes both
-  same_length h = rw (ne_eqb (length a) (length b) h)
-
-  pub same-all : length a ≡ length b → same_to (length a) a b ≡ true → true ≡ same_bytes a b
-  unfolding same_bytes both
-  same-all l h = rw (eq-eqb (length a) (length b) l, h)
+  pub same_bytes-Decides : Decides (same_bytes a b) (a ≡ b)
+  same_bytes-Decides = (told, λ e. subst (λ t. same_bytes t b ≡ true) (sym e) itself)

@@ -4,30 +4,22 @@ use mathlib.Core.Path.{◌≡◌, refl}
 use mathlib.Core.List.{List, ◌++◌, append_assoc, append-nil}
 use native.Mathlib.Omega.{arith}
 use native.Mathlib.Numerals.{add-one}
-use lib.ListN.{length, get_or, set, drop, replicate}
-use lib.Seq.{set_at, drop-drop, drop-cons, drop-length}
+use lib.ListN.{length, get_or, set, take, drop, replicate}
+use lib.Seq.{set_at, drop-cons, drop-length}
 use borrow.Author.Tests.{lt-ltb, le-ltb}
-use Rattle.words.specs.Word.{word_at, num_at, part, words_of}
+use Rattle.std.proofs.lemmas.List.{take-replicate, drop-replicate}
+use Rattle.std.proofs.Math.ListN.{length-replicate}
+use Rattle.words.specs.Word.{word_at, words_of}
 use Rattle.words.proofs.Read.{words_of-length, words_of-suc}
 use Rattle.vector_io.specs.Cases.{words_then_zeros, read_into, digits}
 
 -- ---- the granule record
-word-later : (off i : ℕ) (s : List ℕ) → word_at i (drop off s) ≡ word_at (off + i) s
-unfolding num_at part
-word-later off i s = rw (drop-drop i off s)
-
-pub zeros-none : (s : List ℕ) → replicate 33 0 ≡ words_then_zeros 0 s
-unfolding words_then_zeros words_of
-zeros-none s = refl
-
-pub zeros-more : (i off : ℕ) (s : List ℕ) → i < 33 → set (words_then_zeros i (drop off s)) i (word_at (off + 8 * i) s) ≡ words_then_zeros
-    (i + 1) (drop off s)
-unfolding words_then_zeros
-zeros-more i off s h =
-    let e : 33 - i ≡ suc (32 - i) = omega arith in
-    let f : 33 - suc i ≡ 32 - i = omega arith in
-    rw (add-one, e, f, words_of-suc, append_assoc, word-later off (8 * i) s)
-    (set_at (words_of i (drop off s)) 0 (replicate (32 - i) 0) (word_at (off + 8 * i) s) i (words_of-length i (drop off s)))
+pub zeros_behind : (n : ℕ) (bytes : List ℕ) → n ≤ 33 → read_into bytes (take n (replicate 33 0)) ++ drop n (replicate 33 0) ≡ words_then_zeros n bytes
+unfolding read_into words_then_zeros
+zeros_behind n bytes h =
+    let e : length (take {A = ℕ} n (replicate 33 0)) ≡ n = rw (take-replicate {X = ℕ} n 33 0 h) (length-replicate {A = ℕ} n 0) in
+    let d : drop {A = ℕ} n (replicate 33 0) ≡ replicate (33 - n) 0 = drop-replicate {X = ℕ} n 33 0 in
+    rw (e, le-ltb 600 n (omega arith), d)
 
 -- ---- a list
 pub read_none : (bytes list : List ℕ) → list ≡ words_of 0 bytes ++ drop 0 list

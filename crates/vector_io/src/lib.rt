@@ -3,7 +3,7 @@
 
 mod descriptor;
 
-ghost use Rattle.std.specs.Prelude.{◌≡◌, min, ◌≤◌, ◌<◌};
+ghost use Rattle.std.specs.Prelude.{◌≡◌, min, ◌≤◌, ◌<◌, drop};
 ghost use Rattle.io.specs.Counts.{IsPrefixLen};
 ghost use Rattle.std.specs.Str.{IsUtf8};
 ghost use Rattle.words.specs.Word.{word_at};
@@ -46,11 +46,32 @@ pub fn load(rt: &impl Files<File = File>, n: u64, input: &mut [u8]) -> usize
     length
 }
 
+// Calls `show` with the bytes of each case in turn, c000 first, up to the first number without a case. `input` holds one case at a time.
+pub fn each_case<F: FnMut(&mut [u8])>(rt: &impl Files<File = File>, input: &mut [u8], mut show: F)
+    requires { F.IsAlwaysCallable show }
+{
+    // Counted: `n` is the number in a file's name, and no list holds the files.
+    for n in 0..1000u64 {
+        let length = load(rt, n, input);
+        if length == 0 {
+            return;
+        }
+        show(&mut input[..length]);
+    }
+}
+
 // min(the word at offset `at`, most).
 pub fn length_at(input: &[u8], at: usize, most: usize) -> usize
     ensures { (result ≡ min (word_at at input.now) most) × (result ≤ most) }
 {
     words::word_at(input, at).min(most as u64) as usize
+}
+
+// The bytes from offset `at` to the end, none if `at` is past the end.
+pub fn behind(input: &[u8], at: usize) -> &[u8]
+    ensures { result.now ≡ drop at input.now }
+{
+    input.get(at..).unwrap_or(&[])
 }
 
 // The granule record of a case. The word at `at` is its offset; at this offset is the number n of words given, then n words. The others
@@ -61,9 +82,7 @@ pub fn granules_at(input: &[u8], at: usize) -> [u64; 33]
     let from = length_at(input, at, 40000);
     let given = length_at(input, from, 33);
     let mut granules = [0u64; 33];
-    for i in 0..given {
-        granules[i] = words::word_at(input, from + 8 + 8 * i);
-    }
+    read_words(behind(input, from + 8), &mut granules[..given]);
     granules
 }
 
@@ -82,8 +101,8 @@ pub fn read_words(bytes: &[u8], list: &mut [u64])
     if 600 < list.len() {
         return;
     }
-    for i in 0..list.len() {
-        list[i] = words::word_at(bytes, 8 * i);
+    for (i, word) in list.iter_mut().enumerate() {
+        *word = words::word_at(bytes, 8 * i);
     }
 }
 
@@ -112,15 +131,7 @@ pub fn print_words(list: &[u64]) {
 pub fn same(a: &[u8], b: &[u8]) -> bool
     ensures { result ≡ same_bytes a.now b.now }
 {
-    if a.len() != b.len() {
-        return false;
-    }
-    for i in 0..a.len() {
-        if a[i] != b[i] {
-            return false;
-        }
-    }
-    true
+    a == b
 }
 
 // Prints the name `what`, and whether `held` equals `expected`.
@@ -140,10 +151,10 @@ pub fn mark(part: &[u8]) -> u64
 {
     let mut high = part.len() as u64 % 0xFFFF_FFFB;
     let mut low = high;
-    for i in 0..part.len() {
-        let byte = words::widen(part[i]);
-        high = (high * 0x9E37_79B1 + byte) % 0xFFFF_FFFB;
-        low = (low * 0x85EB_CA77 + byte) % 0xFFFF_FFFB;
+    for byte in part {
+        let digit = u64::from(*byte);
+        high = (high * 0x9E37_79B1 + digit) % 0xFFFF_FFFB;
+        low = (low * 0x85EB_CA77 + digit) % 0xFFFF_FFFB;
     }
     high * 0x1_0000_0000 + low
 }

@@ -13,8 +13,8 @@ use writer::WriteError;
 // The words of a case.
 fn load(input: &[u8]) -> [u64; 4096] {
     let mut list = [0u64; 4096];
-    for i in 0..4096usize {
-        list[i] = words::word_at(input, 8 * i);
+    for (i, word) in list.iter_mut().enumerate() {
+        *word = words::word_at(input, 8 * i);
     }
     list
 }
@@ -23,15 +23,14 @@ fn filled(byte: u8) -> [u8; 8192] {
     [byte; 8192]
 }
 
-// The number of a refusal, 0 if the page was written.
-fn number(answer: Result<(), WriteError>) -> u64 {
-    match answer {
-        Ok(()) => 0,
-        Err(WriteError::Place) => 1,
-        Err(WriteError::Edition) => 2,
-        Err(WriteError::BadEntry) => 3,
-        Err(WriteError::SectionAfterEdition) => 4,
-        Err(WriteError::TooLong) => 5,
+// The number of a refusal. No From: both types would be of other crates.
+fn number(refusal: WriteError) -> u64 {
+    match refusal {
+        WriteError::Place => 1,
+        WriteError::Edition => 2,
+        WriteError::BadEntry => 3,
+        WriteError::SectionAfterEdition => 4,
+        WriteError::TooLong => 5,
     }
 }
 
@@ -46,27 +45,19 @@ fn print_reading(page: &[u8], base: u64, edition: u64) {
 }
 
 // Prints the answer, whether the page is as expected, and, if it was written, what the four editions show of it.
-fn print_page(refusal: u64, base: u64, page: &[u8], expected: &[u8]) {
-    if refusal != 0 {
+fn print_page(answer: Result<(), WriteError>, base: u64, page: &[u8], expected: &[u8]) {
+    if let Err(refusal) = answer {
         io::write_all(STDOUT, b"refused W");
-        io::print_decimal(STDOUT, refusal);
+        io::print_decimal(STDOUT, number(refusal));
         io::write_all(STDOUT, b"\n");
         vector_io::print_same(b"page", page, expected);
         return;
     }
     io::write_all(STDOUT, b"made\n");
     vector_io::print_same(b"page", page, expected);
-    for edition in 1..5u64 {
+    for edition in [1, 2, 3, 4] {
         print_reading(page, base, edition);
     }
-}
-
-// The bytes from offset `at` to the end, empty if `at` is past the end.
-fn behind(input: &[u8], at: usize) -> &[u8] {
-    if input.len() < at {
-        return &input[0..0];
-    }
-    &input[at..]
 }
 
 // Writes the lists of a case, one after another in `list`, to a page filled with the case's byte, and prints the result.
@@ -78,8 +69,8 @@ fn print_written(input: &[u8], list: &[u64], page: &mut [u8])
     let c = b + vector_io::length_at(input, 48, 600);
     let d = c + vector_io::length_at(input, 56, 600);
     let base = list[0];
-    let rest = behind(input, 8 * d);
-    let fields = behind(rest, page.len());
+    let rest = vector_io::behind(input, 8 * d);
+    let fields = vector_io::behind(rest, page.len());
     let answer = writer::write(
         base,
         list[1],
@@ -94,7 +85,7 @@ fn print_written(input: &[u8], list: &[u64], page: &mut [u8])
         at: 0,
         len: page.len(),
     };
-    print_page(number(answer), base, page, words::part_of(rest, expected));
+    print_page(answer, base, page, words::part_of(rest, expected));
 }
 
 fn print_case(input: &[u8]) {
@@ -106,11 +97,5 @@ fn print_case(input: &[u8]) {
 
 fn main(rt: HostRuntime) {
     let mut input = [0u8; 32768];
-    for n in 0..1000u64 {
-        let length = vector_io::load(&rt, n, &mut input);
-        if length == 0 {
-            return;
-        }
-        print_case(&input[..length]);
-    }
+    vector_io::each_case(&rt, &mut input, |case| print_case(case));
 }
