@@ -96,16 +96,9 @@ pub fn with_console(bits: Bits, minor: u64, base: u64, pages: u64, flags: u64) -
 pub fn banks_clear(bits: Bits) -> bool
     ensures { result ≡ bank_clear bits }
 {
-    if bits.low % words::PAGE_SIZE != 0 {
-        return false;
-    }
-    if 0x20_0000_0000_0000 <= bits.low {
-        return false;
-    }
-    if words::ADDRESS_LIMIT <= bits.high {
-        return false;
-    }
-    true
+    bits.low % words::PAGE_SIZE == 0
+        && bits.low < 0x20_0000_0000_0000
+        && bits.high < words::ADDRESS_LIMIT
 }
 
 // Whether every console in `bits`, on a page of minor `minor`, keeps its rule (E1, E3 to E5).

@@ -93,6 +93,7 @@ fn section_words(page: &[u8], core: &[u8], k: u8, pointer: u64) -> [u64; 3]
 }
 
 // Writes the words of the first `n` sections; their arrays follow one another from address `first`.
+// A loop: `pointer` goes on from section to section, and a `fold` whose closure writes to `target` would be no plainer.
 fn put_sections(page: &[u8], core: &[u8], first: u64, n: u8, target: &mut [u8])
     requires { (length page.now ≡ 4096) × (length target.old ≡ 4096) × (n ≤ 4) × ((k : ℕ) → k < n → Movable page.now k)
         × (Copied core.now page.now) × (first + 8 * length (joined n (array_words_in page.now)) < 0x1_0000_0000_0000_0000) }
@@ -111,6 +112,7 @@ fn put_sections(page: &[u8], core: &[u8], first: u64, n: u8, target: &mut [u8])
 }
 
 // Copies the arrays of the first `n` sections, one after another from offset `from`. Returns the offset after them.
+// A loop, as in `put_sections`.
 fn put_arrays(page: &[u8], core: &[u8], from: usize, n: u8, target: &mut [u8]) -> usize
     requires { (length page.now ≡ 4096) × (length target.old ≡ 4096) × (n ≤ 4) × ((k : ℕ) → k < n → Movable page.now k)
         × (Copied core.now page.now) × (from + 8 * length (joined n (array_words_in page.now)) ≤ 4096) }
