@@ -1,12 +1,13 @@
 -- Laws of the checks of four lists. Assumes nothing.
 use Rattle.std.proofs.Common.{rules, IsTrue, All, ◌↔◌, drop, ltb-true, eqb-true, ◌≡◌, ℕ, zero, suc, ◌+◌, ◌-◌, ◌*◌, ◌/◌, ◌%◌, ◌^◌, ◌<◌, ◌≤◌, Bool, true, false, cond, eqb, ltb, leb, List, [], ◌∷◌, length, get_or, take, sym, refl, ap, ◌∙◌, add-zero, add-one, arith, length-append, length-drop, take-suc, lt-ltb, eq-eqb, ne_eqb, le-leb, leb-true, true≢false, Option, Some, None}
 use Rattle.std.specs.Bool.{then_some}
+use Rattle.std.specs.Simd.{first_chunks}
 use native.Mathlib.Nat.{div-add-mod}
 use lib.Seq.{take-length}
 use borrow.Author.Tests.{lt-leb}
 use mathlib.Core.Logic.{◌⊎◌, inl, inr}
 use Rattle.std.proofs.lemmas.Bool.{cases_lt}
-use Rattle.std.proofs.lemmas.List.{get_or-drop}
+use Rattle.std.proofs.lemmas.List.{get_or-drop, get_or-take}
 use Rattle.std.proofs.lemmas.List.Elements.{All-get_or, All-from_get_or}
 use Rattle.words.specs.Tests.{Yes, both, either, every}
 use Rattle.words.proofs.Tests.{either_l, either_r, either-cases, every_of, every-at, every-none, same_test}
@@ -64,6 +65,19 @@ sum-bank ws i at acc t r h o e u v =
     let a : acc ≡ sum (take at ws) % 2 ^ 64 = rw o e in
     let two : r ≡ sum (take (at + 1 + 1) ws) % 2 ^ 64 = sum_more ws (at + 1) t r (omega arith) (sum_more ws at acc t (omega arith) a u) v in
     two ∙ ap (λ n. sum (take n ws) % 2 ^ 64) (let z : at + 1 + 1 ≡ 2 * (i + 1) = omega arith in z)
+
+-- the words of one pair
+pub pair-at : (k i : ℕ) (ws : List ℕ) → i < k →
+    (get_or (get_or (first_chunks 2 k ws) i []) 0 0 ≡ get_or ws (2 * i) 0) × (get_or (get_or (first_chunks 2 k ws) i []) 1 0 ≡ get_or ws (2 * i + 1) 0)
+pair-at zero i ws h = absurd (let z : ⊥ = omega arith in z)
+pair-at (suc k) zero ws h = (get_or-take 2 ws 0 0 (omega arith), get_or-take 2 ws 1 0 (omega arith))
+pair-at (suc k) (suc i) ws h =
+    let p = pair-at k i (drop 2 ws) (omega arith) in
+    let m : 2 + 2 * i ≡ 2 * suc i = omega arith in
+    let n : 2 + (2 * i + 1) ≡ 2 * suc i + 1 = omega arith in (
+      p.0 ∙ get_or-drop 2 ws (2 * i) 0 ∙ ap (λ j. get_or ws j 0) m,
+      p.1 ∙ get_or-drop 2 ws (2 * i + 1) 0 ∙ ap (λ j. get_or ws j 0) n,
+    )
 
 -- a value under a test
 abbrev value_in : Option ℕ → ℕ

@@ -1,7 +1,7 @@
 // The writer's checks of a description, W3 to W5: whole entries and valid fields, no entry of a section after the edition, and enough room.
 #![tactic(auto)]
 
-ghost use Rattle.std.specs.Prelude.{◌≡◌, [], ◌∷◌, ◌*◌, ◌%◌, ◌^◌, ◌≤◌, ◌↔◌, length, take, drop, if◌then◌else◌, ◌≢◌, nat_le};
+ghost use Rattle.std.specs.Prelude.{◌≡◌, [], ◌∷◌, ◌*◌, ◌/◌, ◌%◌, ◌^◌, ◌≤◌, ◌↔◌, length, take, drop, if◌then◌else◌, ◌≢◌, nat_le};
 ghost use Rattle.std.specs.Prelude.{IsTrue, All};
 ghost use Rattle.std.specs.Bool.{then_some};
 ghost use Rattle.entries.specs.Entry.{entries_ok, sum};
@@ -32,20 +32,18 @@ pub struct Lists<'a> {
 }
 
 // Sums and checks the first `count` banks or regions of `words` in one loop: their sum if each keeps its rule. `k` is their section, not 1.
-fn sum_banks(words: &[u64], minor: u64, k: usize, count: usize) -> Option<u64>
-    requires { (k ≢ 1) × (2 * count ≤ length words.now) }
-    ensures { result ≡ then_some (entries_ok minor k count words.now) (sum (take (2 * count) words.now) % 2 ^ 64) }
+fn sum_banks(words: &[u64], minor: u64, k: usize) -> Option<u64>
+    requires { k ≢ 1 }
+    ensures { result ≡ then_some (entries_ok minor k (length words.now / 2) words.now) (sum (take (2 * (length words.now / 2)) words.now) % 2 ^ 64) }
 {
     let mut bits = Bits::none();
     let mut sum: u64 = 0;
-    let mut at = 0;
-    for i in 0..count {
-        let base = words[at];
-        let size = words[at + 1];
+    let (banks, _) = words.as_chunks::<2>();
+    for bank in banks {
+        let [base, size] = *bank;
         sum = std::num::wrapping_add_u64(sum, base);
         sum = std::num::wrapping_add_u64(sum, size);
         bits = entries::with_bank(bits, base, size);
-        at += 2;
     }
     entries::banks_clear(bits).then_some(sum)
 }
@@ -88,7 +86,7 @@ fn sum_list(words: &[u64], minor: u64, k: usize) -> Option<u64>
         let sum = sum_of(words);
         return consoles_ok(words, minor, count).then_some(sum);
     }
-    sum_banks(words, minor, k, count)
+    sum_banks(words, minor, k)
 }
 
 // W3: whether `fields` may be written.

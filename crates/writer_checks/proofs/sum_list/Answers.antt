@@ -31,13 +31,7 @@ returns-then-k-eq1 c =
     c.then_some.ensures ∙ rw (ok, c.sum_of-sum.ensures)
 
 pub sum_banks-requires : goal.sum_banks-requires
-sum_banks-requires c =
-    let a = c.args in
-    let n = length a.words.now in
-    let p : words_per_entry a.k ≡ 2 = per-other a.k c.if-k-eq1.false in
-    let m : n / c.entry_words-step.result ≡ n / 2 = ap (λ x. n / x) (c.entry_words-step.ensures.0 ∙ p) in
-    let r : 2 * (n / 2) ≤ n = rw p at (whole_room a.k n) in
-    (c.if-k-eq1.false, omega arith)
+sum_banks-requires c = c.if-k-eq1.false
 
 pub returns : goal.returns
 returns c =
@@ -46,7 +40,6 @@ returns c =
     let n = length a.words.now in
     let p : w.result ≡ 2 = w.ensures.0 ∙ per-other a.k c.if-k-eq1.false in
     let z : n % 2 ≡ 0 = rw p at c.if-words-step-ne0.false in
-    let m : n / w.result ≡ n / 2 = ap (λ x. n / x) p in
-    let ok = ap (λ x. entries_ok a.minor a.k (n / x) a.words.now) w.ensures.0
+    let ok = ap (λ x. entries_ok a.minor a.k (n / x) a.words.now) (sym p ∙ w.ensures.0)
     ∙ sym (list-whole a.minor a.k a.words.now (rw w.ensures.0 at c.if-words-step-ne0.false)) in
-    c.sum_banks.ensures ∙ rw (ok, sum-all a.words.now (2 * (n / w.result)) (omega arith))
+    c.sum_banks.ensures ∙ rw (ok, sum-all a.words.now (2 * (n / 2)) (omega arith))
