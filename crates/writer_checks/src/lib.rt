@@ -31,7 +31,7 @@ pub struct Lists<'a> {
     pub coh: &'a [u64],
 }
 
-// Sums and checks the first `count` banks or regions of `words` in one loop: their sum if each keeps its rule. `k` is their section, not 1.
+// Sums and checks the whole banks or regions of `words` in one loop: their sum if each keeps its rule. `k` is their section, not 1.
 fn sum_banks(words: &[u64], minor: u64, k: usize) -> Option<u64>
     requires { k ≢ 1 }
     ensures { result ≡ then_some (entries_ok minor k (length words.now / 2) words.now) (sum (take (2 * (length words.now / 2)) words.now) % 2 ^ 64) }
@@ -59,16 +59,14 @@ fn sum_of(words: &[u64]) -> u64
     total
 }
 
-// Whether each of the first `count` consoles of `words` keeps its rule on a page of version 0.`minor`.
-fn consoles_ok(words: &[u64], minor: u64, count: usize) -> bool
-    requires { 6 * count ≤ length words.now }
-    ensures { result ≡ entries_ok minor 1 count words.now }
+// Whether each whole console of `words` keeps its rule on a page of version 0.`minor`.
+fn consoles_ok(words: &[u64], minor: u64) -> bool
+    ensures { result ≡ entries_ok minor 1 (length words.now / 6) words.now }
 {
     let mut bits = Bits::none();
-    let mut at = 0;
-    for i in 0..count {
-        bits = entries::with_console(bits, minor, words[at], words[at + 1], words[at + 5]);
-        at += 6;
+    let (consoles, _) = words.as_chunks::<6>();
+    for console in consoles {
+        bits = entries::with_console(bits, minor, console[0], console[1], console[5]);
     }
     entries::consoles_clear(bits, minor)
 }
@@ -81,10 +79,9 @@ fn sum_list(words: &[u64], minor: u64, k: usize) -> Option<u64>
     if words.len() % step != 0 {
         return None;
     }
-    let count = words.len() / step;
     if k == 1 {
         let sum = sum_of(words);
-        return consoles_ok(words, minor, count).then_some(sum);
+        return consoles_ok(words, minor).then_some(sum);
     }
     sum_banks(words, minor, k)
 }

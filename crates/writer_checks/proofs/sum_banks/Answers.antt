@@ -2,7 +2,7 @@ use Rattle.std.proofs.Common.{◌≡◌, ◌+◌, ◌*◌, ◌/◌, ◌<◌, [],
 use Rattle.words.specs.Tests.{both}
 use Rattle.entries.specs.Entry.{bank_ok, sum}
 use Rattle.entries.specs.Fast.{bank_clear}
-use Rattle.writer_checks.proofs.Described.{described-none, described-bank, sum-bank, pair-at}
+use Rattle.writer_checks.proofs.Described.{described-none, described-bank, sum-bank, chunk-at}
 use Rattle.writer_checks.proofs.sum_banks.Goals as goal
 
 pub loop-bank-init : goal.loop-bank-init
@@ -19,9 +19,8 @@ loop-bank-preserved c =
     let ws = a.words.now in
     let n = length ws / 2 in
     let h : i < n = omega (arith, c.as_chunks.ensures.front_len, c.loop-bank-test.true) in
-    let p = pair-at n i ws h in
-    let x : get_or (get_or c.as_chunks.result.0.now i []) 0 0 ≡ get_or ws (2 * i) 0 = rw c.as_chunks.ensures.front p.0 in
-    let y : get_or (get_or c.as_chunks.result.0.now i []) 1 0 ≡ get_or ws (2 * i + 1) 0 = rw c.as_chunks.ensures.front p.1 in (
+    let x : get_or (get_or c.as_chunks.result.0.now i []) 0 0 ≡ get_or ws (2 * i) 0 = rw c.as_chunks.ensures.front (chunk-at 2 n i 0 ws h (omega arith) ∙ ap (λ j. get_or ws j 0) (let z : 2 * i + 0 ≡ 2 * i = omega arith in z)) in
+    let y : get_or (get_or c.as_chunks.result.0.now i []) 1 0 ≡ get_or ws (2 * i + 1) 0 = rw c.as_chunks.ensures.front (chunk-at 2 n i 1 ws h (omega arith)) in (
       sum-bank ws i (2 * i) l.sum _ _ (omega arith) refl l.invariant.0
           (rw x at c.wrapping_add_u64-sum.ensures.value) (rw y at c.wrapping_add_u64-sum-in-loop-bank.ensures.value),
       described-bank a.minor i ws _ a.k (2 * i) c.requires refl
