@@ -1,12 +1,12 @@
 -- Laws of the checks of four lists. Assumes nothing.
-use Rattle.std.proofs.Common.{rules, IsTrue, All, ◌↔◌, drop, ltb-true, eqb-true, ◌≡◌, ℕ, zero, suc, ◌+◌, ◌-◌, ◌*◌, ◌/◌, ◌%◌, ◌^◌, ◌<◌, ◌≤◌, Bool, true, false, cond, eqb, ltb, leb, List, [], ◌∷◌, length, get_or, take, sym, refl, ap, ◌∙◌, add-zero, add-one, arith, length-append, length-drop, take-suc, lt-ltb, eq-eqb, ne_eqb, le-leb, leb-true, true≢false, Option, Some, None}
+use Rattle.std.proofs.Common.{rules, IsTrue, All, ◌↔◌, drop, ltb-true, eqb-true, ◌≡◌, ℕ, zero, suc, ◌+◌, ◌-◌, ◌*◌, ◌/◌, ◌%◌, ◌^◌, ◌<◌, ◌≤◌, Bool, true, false, cond, eqb, ltb, leb, List, [], ◌∷◌, length, get_or, take, sym, refl, ap, ◌∙◌, mul-zero, mul-suc, add-zero, add-one, arith, length-append, length-drop, take-suc, lt-ltb, eq-eqb, ne_eqb, le-leb, leb-true, true≢false, Option, Some, None}
 use Rattle.std.specs.Bool.{then_some}
-use native.Mathlib.Nat.{div-add-mod}
+use Rattle.std.specs.Simd.{first_chunks}
 use lib.Seq.{take-length}
 use borrow.Author.Tests.{lt-leb}
 use mathlib.Core.Logic.{◌⊎◌, inl, inr}
 use Rattle.std.proofs.lemmas.Bool.{cases_lt}
-use Rattle.std.proofs.lemmas.List.{get_or-drop}
+use Rattle.std.proofs.lemmas.List.{get_or-drop, get_or-take}
 use Rattle.std.proofs.lemmas.List.Elements.{All-get_or, All-from_get_or}
 use Rattle.words.specs.Tests.{Yes, both, either, every}
 use Rattle.words.proofs.Tests.{either_l, either_r, either-cases, every_of, every-at, every-none, same_test}
@@ -65,6 +65,14 @@ sum-bank ws i at acc t r h o e u v =
     let two : r ≡ sum (take (at + 1 + 1) ws) % 2 ^ 64 = sum_more ws (at + 1) t r (omega arith) (sum_more ws at acc t (omega arith) a u) v in
     two ∙ ap (λ n. sum (take n ws) % 2 ^ 64) (let z : at + 1 + 1 ≡ 2 * (i + 1) = omega arith in z)
 
+-- the words of one chunk
+pub chunk-at : (n k i j : ℕ) (ws : List ℕ) → i < k → j < n → get_or (get_or (first_chunks n k ws) i []) j 0 ≡ get_or ws (n * i + j) 0
+chunk-at n zero i j ws h l = absurd (let z : ⊥ = omega arith in z)
+chunk-at n (suc k) zero j ws h l = get_or-take n ws j 0 l ∙ ap (λ x. get_or ws x 0) (let z : j ≡ n * 0 + j = omega (arith, mul-zero n) in z)
+chunk-at n (suc k) (suc i) j ws h l =
+    chunk-at n k i j (drop n ws) (omega arith) l ∙ get_or-drop n ws (n * i + j) 0
+    ∙ ap (λ x. get_or ws x 0) (let z : n + (n * i + j) ≡ n * suc i + j = omega (arith, mul-suc n i) in z)
+
 -- a value under a test
 abbrev value_in : Option ℕ → ℕ
 value_in None = 0
@@ -81,10 +89,6 @@ some-is false x s h = absurd (true≢false (sym (ap has_value h)))
 none-is : (b : Bool) (x : ℕ) → then_some b x ≡ None → b ≡ false
 none-is true x h = absurd (true≢false (ap has_value h))
 none-is false x h = refl
-
--- the number of whole entries that the length gives
-pub whole_room : (k n : ℕ) → words_per_entry k * (n / words_per_entry k) ≤ n
-whole_room k n = omega (arith, div-add-mod n (words_per_entry k))
 
 module _ (w k : ℕ) (ws : List ℕ) where
   pub list-part : (length ws % words_per_entry k ≡ 0 → ⊥) → list_ok w k ws ≡ false

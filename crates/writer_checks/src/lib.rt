@@ -1,7 +1,7 @@
 // The writer's checks of a description, W3 to W5: whole entries and valid fields, no entry of a section after the edition, and enough room.
 #![tactic(auto)]
 
-ghost use Rattle.std.specs.Prelude.{◌≡◌, [], ◌∷◌, ◌*◌, ◌%◌, ◌^◌, ◌≤◌, ◌↔◌, length, take, drop, if◌then◌else◌, ◌≢◌, nat_le};
+ghost use Rattle.std.specs.Prelude.{◌≡◌, [], ◌∷◌, ◌*◌, ◌/◌, ◌%◌, ◌^◌, ◌≤◌, ◌↔◌, length, take, drop, if◌then◌else◌, ◌≢◌, nat_le};
 ghost use Rattle.std.specs.Prelude.{IsTrue, All};
 ghost use Rattle.std.specs.Bool.{then_some};
 ghost use Rattle.entries.specs.Entry.{entries_ok, sum};
@@ -31,21 +31,19 @@ pub struct Lists<'a> {
     pub coh: &'a [u64],
 }
 
-// Sums and checks the first `count` banks or regions of `words` in one loop: their sum if each keeps its rule. `k` is their section, not 1.
-fn sum_banks(words: &[u64], minor: u64, k: usize, count: usize) -> Option<u64>
-    requires { (k ≢ 1) × (2 * count ≤ length words.now) }
-    ensures { result ≡ then_some (entries_ok minor k count words.now) (sum (take (2 * count) words.now) % 2 ^ 64) }
+// Sums and checks the whole banks or regions of `words` in one loop: their sum if each keeps its rule. `k` is their section, not 1.
+fn sum_banks(words: &[u64], minor: u64, k: usize) -> Option<u64>
+    requires { k ≢ 1 }
+    ensures { result ≡ then_some (entries_ok minor k (length words.now / 2) words.now) (sum (take (2 * (length words.now / 2)) words.now) % 2 ^ 64) }
 {
     let mut bits = Bits::none();
     let mut sum: u64 = 0;
-    let mut at = 0;
-    for i in 0..count {
-        let base = words[at];
-        let size = words[at + 1];
+    let (banks, _) = words.as_chunks::<2>();
+    for bank in banks {
+        let [base, size] = *bank;
         sum = std::num::wrapping_add_u64(sum, base);
         sum = std::num::wrapping_add_u64(sum, size);
         bits = entries::with_bank(bits, base, size);
-        at += 2;
     }
     entries::banks_clear(bits).then_some(sum)
 }
@@ -61,16 +59,14 @@ fn sum_of(words: &[u64]) -> u64
     total
 }
 
-// Whether each of the first `count` consoles of `words` keeps its rule on a page of version 0.`minor`.
-fn consoles_ok(words: &[u64], minor: u64, count: usize) -> bool
-    requires { 6 * count ≤ length words.now }
-    ensures { result ≡ entries_ok minor 1 count words.now }
+// Whether each whole console of `words` keeps its rule on a page of version 0.`minor`.
+fn consoles_ok(words: &[u64], minor: u64) -> bool
+    ensures { result ≡ entries_ok minor 1 (length words.now / 6) words.now }
 {
     let mut bits = Bits::none();
-    let mut at = 0;
-    for i in 0..count {
-        bits = entries::with_console(bits, minor, words[at], words[at + 1], words[at + 5]);
-        at += 6;
+    let (consoles, _) = words.as_chunks::<6>();
+    for console in consoles {
+        bits = entries::with_console(bits, minor, console[0], console[1], console[5]);
     }
     entries::consoles_clear(bits, minor)
 }
@@ -83,12 +79,11 @@ fn sum_list(words: &[u64], minor: u64, k: usize) -> Option<u64>
     if words.len() % step != 0 {
         return None;
     }
-    let count = words.len() / step;
     if k == 1 {
         let sum = sum_of(words);
-        return consoles_ok(words, minor, count).then_some(sum);
+        return consoles_ok(words, minor).then_some(sum);
     }
-    sum_banks(words, minor, k, count)
+    sum_banks(words, minor, k)
 }
 
 // W3: whether `fields` may be written.

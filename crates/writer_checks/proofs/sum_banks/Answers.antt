@@ -1,32 +1,28 @@
-use Rattle.std.proofs.Common.{◌≡◌, ◌+◌, get_or, sym, refl, ap, ◌∙◌, arith, rules}
+use Rattle.std.proofs.Common.{◌≡◌, ◌+◌, ◌*◌, ◌/◌, ◌<◌, [], length, get_or, sym, refl, ap, ◌∙◌, arith}
 use Rattle.words.specs.Tests.{both}
 use Rattle.entries.specs.Entry.{bank_ok, sum}
 use Rattle.entries.specs.Fast.{bank_clear}
-use Rattle.writer_checks.proofs.Described.{described-none, described-bank, sum-bank}
+use Rattle.writer_checks.proofs.Described.{described-none, described-bank, sum-bank, chunk-at}
 use Rattle.writer_checks.proofs.sum_banks.Goals as goal
 
-pub loop-i-init : goal.loop-i-init
+pub loop-bank-init : goal.loop-bank-init
 unfolding bank_clear both sum
-loop-i-init c =
+loop-bank-init c =
     let a = c.args in
-    (search rules, search rules, refl, rw c.none-bits.ensures (sym (described-none a.minor a.k a.words.now)))
+    (refl, rw c.none-bits.ensures (sym (described-none a.minor a.k a.words.now)))
 
-pub loop-i-preserved : goal.loop-i-preserved
-loop-i-preserved c =
+pub loop-bank-preserved : goal.loop-bank-preserved
+loop-bank-preserved c =
     let a = c.args in
-    let l = c.loop-i in (
-      search rules,
-      search rules,
-      sum-bank a.words.now l.i l.at l.sum _ _ (omega arith) l.invariant.1 l.invariant.2
-          c.wrapping_add_u64-sum.ensures.value c.wrapping_add_u64-sum-in-loop-i.ensures.value,
-      described-bank a.minor l.i a.words.now _ a.k l.at c.requires.0 l.invariant.1
-          (c.with_bank-bits.ensures ∙ ap (λ x. both x (bank_ok (get_or a.words.now l.at 0) (get_or a.words.now (l.at + 1) 0)))
-          l.invariant.3),
+    let l = c.loop-bank in
+    let i = l.bank-index in
+    let ws = a.words.now in
+    let n = length ws / 2 in
+    let h : i < n = omega (arith, c.as_chunks.ensures.front_len, c.loop-bank-test.true) in
+    let x : get_or (get_or c.as_chunks.result.0.now i []) 0 0 ≡ get_or ws (2 * i) 0 = rw c.as_chunks.ensures.front (chunk-at 2 n i 0 ws h (omega arith) ∙ ap (λ j. get_or ws j 0) (let z : 2 * i + 0 ≡ 2 * i = omega arith in z)) in
+    let y : get_or (get_or c.as_chunks.result.0.now i []) 1 0 ≡ get_or ws (2 * i + 1) 0 = rw c.as_chunks.ensures.front (chunk-at 2 n i 1 ws h (omega arith)) in (
+      sum-bank ws i (2 * i) l.sum _ _ (omega arith) refl l.invariant.0
+          (rw x at c.wrapping_add_u64-sum.ensures.value) (rw y at c.wrapping_add_u64-sum-in-loop-bank.ensures.value),
+      described-bank a.minor i ws _ a.k (2 * i) c.requires refl
+          ((rw (x, y) at c.with_bank-bits.ensures) ∙ ap (λ b. both b (bank_ok (get_or ws (2 * i) 0) (get_or ws (2 * i + 1) 0))) l.invariant.1),
     )
-
-pub returns : goal.returns
-returns c =
-    let a = c.args in
-    let l = c.loop-i in
-    let e : l.i ≡ a.count = omega arith in
-    c.then_some.ensures ∙ rw (c.banks_clear.ensures ∙ l.invariant.3, l.invariant.2, e)
