@@ -26,6 +26,7 @@ impl Direction {
     }
 
     // Returns the byte that a granule gets.
+    // Not as the other direction's `from_byte`, which is no plainer: the method that gives the other direction has the same two arms.
     #[tactic(auto, unfolding(crate::specs::Granules::to_byte))]
     pub fn to_byte(self) -> u8
         ensures { result ≡ to_byte self }

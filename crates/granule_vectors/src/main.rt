@@ -143,7 +143,7 @@ fn print_set_up(input: &[u8]) {
     let shown = words::part_of(input, Span { at: 72, len: n });
     let code = banks::set_up(shown, words::word_at(input, 56), &mut granules);
     print(b"set_up");
-    vector_io::print_word(codes::x0(code));
+    vector_io::print_word(u64::from(code));
     print(b"\n");
     print_record(&granules);
 }

@@ -74,7 +74,7 @@ pub fn session_words(session: Session) -> [u64; 3]
 pub fn put_session(image: &mut [u64; 3], session: Session, code: Code)
     ensures { image.new ≡ if_ok code (session_words session) image.old }
 {
-    if codes::is_ok(code) {
+    if code == Code::Ok {
         *image = session_words(session);
     }
 }
@@ -209,8 +209,8 @@ pub fn number_x0(number: Result<u64, Inval>) -> u64
     ensures { result ≡ number_x0 number }
 {
     match number {
-        Ok(_) => codes::x0(Code::Ok),
-        Err(Inval) => codes::x0(Code::Inval),
+        Ok(_) => u64::from(Code::Ok),
+        Err(Inval) => u64::from(Code::Inval),
     }
 }
 
@@ -231,9 +231,9 @@ pub fn hit_x0(hit: Result<Option<usize>, Inval>) -> u64
     ensures { result ≡ hit_x0 hit }
 {
     match hit {
-        Ok(Some(_)) => codes::x0(Code::Ok),
+        Ok(Some(_)) => u64::from(Code::Ok),
         Ok(None) => 1,
-        Err(Inval) => codes::x0(Code::Inval),
+        Err(Inval) => u64::from(Code::Inval),
     }
 }
 
@@ -255,9 +255,9 @@ pub fn agreement_x0(agreement: Result<bool, Inval>) -> u64
     ensures { result ≡ agreement_x0 agreement }
 {
     match agreement {
-        Ok(true) => codes::x0(Code::Ok),
+        Ok(true) => u64::from(Code::Ok),
         Ok(false) => 1,
-        Err(Inval) => codes::x0(Code::Inval),
+        Err(Inval) => u64::from(Code::Inval),
     }
 }
 
@@ -267,7 +267,7 @@ pub fn built_x0(built: Result<(), Inval>) -> u64
     ensures { result ≡ built_x0 built }
 {
     match built {
-        Ok(()) => codes::x0(Code::Ok),
-        Err(Inval) => codes::x0(Code::Inval),
+        Ok(()) => u64::from(Code::Ok),
+        Err(Inval) => u64::from(Code::Inval),
     }
 }

@@ -164,6 +164,7 @@ pub fn challenge_place(state: Record, page: &[u8], pa: u64, size: u64, csize: u6
 }
 
 // Returns the code of the first check that fails for the challenge, or OK. With OK and `csize` 0 the call is no start.
+// A `Code` and no `Result`: clause `value` takes the code, which pbeam_challenge passes on as x0.
 pub fn challenge_code(state: Record, page: &[u8], pa: u64, size: u64, csize: u64) -> Code
     ensures value { result ≡ buffer_code state (length page.now) false pa size csize }
     ensures result_value { number_of result ≡ challenge_number state (length page.now) pa size csize }
