@@ -127,11 +127,5 @@ fn print_case(input: &[u8]) {
 
 fn main(rt: HostRuntime) {
     let mut input = [0u8; 32768];
-    for n in 0..1000u64 {
-        let length = vector_io::load(&rt, n, &mut input);
-        if length == 0 {
-            return;
-        }
-        print_case(&input[..length]);
-    }
+    vector_io::each_case(&rt, &mut input, |case| print_case(case));
 }
