@@ -436,7 +436,7 @@ extern "C" {
  *                                  (no end mark in the page, tag 0 with a length, a length that tags 1 to 3 may not have, one of
  *                                  these twice) or share a byte with an array
  * Leaves   the page unchanged. view: what the page shows; refused: all zero.
- * Stack    320 bytes; AArch64 544
+ * Stack    320 bytes; AArch64 448
  * A later minor is never refused. Sections after e and bytes after the end mark are not read. Fields belong to every edition.
  * If another CPU writes the page during the call, the view still has only places that were judged, all within the page; which bytes its
  * entries and fields were judged by is then not known.
@@ -451,7 +451,7 @@ int32_t pbeam_read(const uint8_t *page, size_t page_len, uint64_t base, uint64_t
  * Writes   place: the part of the page that holds the array; (0, 0) if the page is refused, the section is absent or empty,
  *          or its number is above 3. pbeam_read returns why a page is refused.
  * Leaves   the page unchanged.
- * Stack    320 bytes; AArch64 544
+ * Stack    320 bytes; AArch64 448
  */
 PBEAM_NONNULL(6)
 void pbeam_array(const uint8_t *page, size_t page_len, uint64_t base, uint64_t edition, size_t section,
@@ -600,7 +600,7 @@ uint64_t pbeam_kept_for(const uint8_t *page, size_t page_len, const uint64_t vie
  * Leaves   the page unchanged. text: ASCII from its first byte, each line ended by '\n', no '\0' at the end; as much as fits. Bytes
  *          after the text are unchanged. For a refused page the text is one line, "refused -5", "refused -6" or
  *          "refused -7", with the code of pbeam_read.
- * Stack    640 bytes; AArch64 800
+ * Stack    704 bytes; AArch64 800
  * A field is its tag and the length of its value in decimal, and each byte of the value as two lower-case hex digits, separated by blanks;
  * the withdrawn one is "3 withdrawn".
  * A word is 0x and 16 lower-case hex digits, a console's name 16 such digits without 0x for its 8 bytes in order; the flags of a
@@ -626,7 +626,7 @@ size_t pbeam_listing(const uint8_t *page, size_t page_len, uint64_t base, uint64
  * Leaves   the whole page written: version, the sections, the arrays directly after the core in section order, then the fields with their
  *          end mark and plat_data pointing at them, or plat_data 0 without fields; zero everywhere else. An empty list becomes a section
  *          of 24 zero bytes. Refused, the page is unchanged. Lists and fields are unchanged.
- * Stack    448 bytes; AArch64 480
+ * Stack    448 bytes; AArch64 768
  */
 PBEAM_MUST_CHECK
 uint32_t pbeam_write(uint64_t base, uint64_t edition, const uint64_t *dram, size_t dram_len, const uint64_t *console, size_t console_len,
@@ -648,7 +648,7 @@ uint32_t pbeam_write(uint64_t base, uint64_t edition, const uint64_t *dram, size
  *          PBEAM_MANIFEST_PLACE    K above 4,096
  *          PBEAM_MANIFEST_PLACE, PBEAM_MANIFEST_VERSION, PBEAM_MANIFEST_RULES  as pbeam_read
  * Leaves   the page unchanged. state: up, with x2, B, the agreed minor and K; refused: closed, permanently.
- * Stack    352 bytes; AArch64 576
+ * Stack    352 bytes; AArch64 480
  * The boot keeps no view. With K = 0 call pbeam_read before a command writes into the page. K need not cover the manifest; with K =
  * 4,096 every buffer is outside.
  * EL3 holds its lock for the call, and marks the CPU as booting under it.
@@ -848,7 +848,7 @@ uint64_t pbeam_realm_build(const uint64_t granules[PBEAM_GRANULES_WORDS], const 
  *          PBEAM_X0_INVAL     too long; curve not PBEAM_CURVE_SECP384R1
  *          PBEAM_X0_UNK       key empty, or longer than size
  * Leaves   on OK the key's bytes at pa; every other byte of the page is unchanged. Refused, the page is unchanged.
- * Stack    96 bytes; AArch64 32
+ * Stack    96 bytes; AArch64 64
  * EL3 holds its lock for the call: a boot or pbeam_close on another CPU writes the record, and the platform may change its key.
  */
 PBEAM_NONNULL(1, 9)
@@ -869,7 +869,7 @@ void pbeam_realm_key(const uint64_t state[PBEAM_STATE_WORDS], uint8_t *PBEAM_RES
  *          PBEAM_X0_UNK       token empty; c_size 0 and token_len differs from that at the start
  * Leaves   on OK the hunk, the token's next bytes, at pa; every other byte of the page is unchanged. session: idle after rest 0,
  *          otherwise sending. Refused, page and session are unchanged.
- * Stack    128 bytes; AArch64 32
+ * Stack    128 bytes; AArch64 96
  * The hunk overwrites the challenge: call pbeam_challenge first. Size 0 with c_size 0 in a session is OK and delivers nothing.
  * One lock spans pbeam_challenge, the copy of the challenge, the choice of the token and this call: there is one session for all CPUs.
  */
@@ -926,7 +926,7 @@ void pbeam_features(const uint64_t state[PBEAM_STATE_WORDS], uint64_t index, uin
  * Leaves   on OK: push: the request after the other waiting ones, the page unchanged; pull: the oldest response at pa, and removed
  *          from the queue; key: the key at pa, the queue unchanged. Every other byte of the page is unchanged. Refused, page and queue are
  *          unchanged.
- * Stack    224 bytes; AArch64 384
+ * Stack    224 bytes; AArch64 288
  * EL3 holds its lock for the call: the signer's side writes the queue.
  */
 PBEAM_NONNULL(1, 2, 11)
@@ -971,7 +971,7 @@ uint64_t pbeam_forward(const uint64_t state[PBEAM_STATE_WORDS], uint64_t x1);
  *          PBEAM_X0_AGAIN     eight responses waiting; the request is kept
  * Leaves   on OK the queue with one request less and one response more: rec_granule and req_ticket of the request, and the signature.
  *          Refused, the queue is unchanged.
- * Stack    224 bytes; AArch64 224
+ * Stack    224 bytes; AArch64 320
  * One lock spans pbeam_oldest, the making of the signature and this call. With a lock around each alone, two signers get the same request;
  * the second signature goes to the next ticket, whose hash it is not for, and both calls are OK. If there is only one signer, it may
  * release the lock while it makes the signature: only this function removes a request.
@@ -1015,7 +1015,7 @@ size_t pbeam_responses(const uint64_t queue[PBEAM_QUEUE_WORDS]);
  *          PBEAM_ID_DELEGATE and PBEAM_ID_UNDELEGATE use the words, and check words_len before the record.
  * Leaves   what the command leaves; everything else is unchanged. Only PBEAM_ID_PLATFORM_TOKEN reads or writes the session, only
  *          PBEAM_ID_TOKEN_SIGNING the queue.
- * Stack    448 bytes with PBEAM_ID_TOKEN_SIGNING, 448 bytes with any other id; AArch64 576
+ * Stack    480 bytes with PBEAM_ID_TOKEN_SIGNING, 448 bytes with any other id; AArch64 480
  * One lock spans what EL3 copies before the call, the call, and what the hardware must do after it ("One lock" at the head of this file).
  */
 PBEAM_NONNULL(1, 2, 3, 6, 19, 20, 21)

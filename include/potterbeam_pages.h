@@ -70,7 +70,7 @@ extern "C" {
  *          PBEAM_PACK_W1_TARGET    target not 4,096 bytes long
  * Leaves   the page unchanged. target: the page that pbeam_write makes at the page's own minor, from the entries that the page shows and its
  *          fields in page order, without the withdrawn one; so plat_data is 0 if no other field is left. Refused, target is unchanged.
- * Stack    352 bytes; AArch64 320
+ * Stack    352 bytes; AArch64 384
  * A reader of any edition shows the same for both, except plat_data, the withdrawn field and the offsets of the arrays; packing the target
  * again changes no byte (proved).
  * If another CPU writes the page during the call, no access leaves page or target, but target may then be no valid page: read it again.
@@ -89,7 +89,7 @@ int32_t pbeam_pack(const uint8_t *page, size_t page_len, uint64_t base, uint8_t 
  *          if it breaks a rule by itself, or if its array shares a byte with the fields or an array kept before it, in the order of
  *          the words of changed. Only bytes 4 to 111 are written: arrays and fields that nothing points at stay in the page, and
  *          sections after e are unchanged. Refused, the page is unchanged, and changed is all zero.
- * Stack    288 bytes; AArch64 224
+ * Stack    288 bytes; AArch64 416
  * Afterwards pbeam_read accepts the page as PBEAM_EDITION_LAST, and shows all that was kept; a page that it accepts before is unchanged,
  * with no part changed (proved).
  */
