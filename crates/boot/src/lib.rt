@@ -17,7 +17,7 @@ pub struct Params {
     pub kept: u64,
 }
 
-// The boot record (BT1): no boot yet, up, or closed for good by a failed boot.
+// The boot record (BT1): no boot yet, up, or closed for good by a failed boot. Three states that the interface names, and no `Option`.
 #[derive(Clone, Copy)]
 pub enum Record {
     Fresh,
@@ -132,6 +132,7 @@ impl Record {
         if words::PAGE_SIZE < kept {
             return Err(BootRefusal::Manifest(Refusal::Place));
         }
+        // `let .. else` is the form that the project names here (docs/DECISIONS.md, "Forms").
         let Err(code) = reader::judge_page(page, x3, 4) else {
             return Ok(Params {
                 cpus: x2,
@@ -140,7 +141,7 @@ impl Record {
                 kept,
             });
         };
-        Err(BootRefusal::Manifest(code))
+        Err(BootRefusal::from(code))
     }
 
     // Cold boot with x0 to x3 (BT2, BT3). The monitor supports at most `maxcpus` CPUs, the first `kept` bytes of the page are kept,

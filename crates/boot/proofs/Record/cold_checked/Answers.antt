@@ -45,6 +45,6 @@ returns-in_default-judge_page c =
 pub returns : goal.returns
 returns c =
     let a = c.args in
-    cold-refused a.self a.x0 a.x1 a.x2 a.x3 a.maxcpus a.kept a.page.now c.in-Fresh.is
+    rw c.from.ensures (cold-refused a.self a.x0 a.x1 a.x2 a.x3 a.maxcpus a.kept a.page.now c.in-Fresh.is
     (sym c.is_accepted.ensures ∙ c.if-not-is_accepted.false) (search rules) (search rules) (search rules) _
-    (refused-reads 4 a.x3 a.page.now _ c.in-Err.ensures.value)
+    (refused-reads 4 a.x3 a.page.now _ c.in-Err.ensures.value))
