@@ -17,7 +17,7 @@ pub struct Params {
     pub kept: u64,
 }
 
-// The boot record (BT1): no boot yet, up, or closed for good by a failed boot. Three states that the interface names, and no `Option`.
+// The boot record (BT1): no boot yet, up, or closed for good by a failed boot. No `Option`: these are three states that the interface names.
 #[derive(Clone, Copy)]
 pub enum Record {
     Fresh,

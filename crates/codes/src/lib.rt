@@ -2,7 +2,7 @@
 #![tactic(auto)]
 
 ghost use Rattle.std.specs.Prelude.{◌≡◌, cond, pos};
-ghost use Rattle.codes.specs.Codes.{number_of, x0_of, answer_of, is_ok, fails, is_up, boot_params, when_up, gated};
+ghost use Rattle.codes.specs.Codes.{number_of, x0_of, answer_of, fails, boot_params, when_up, gated};
 
 use boot::{Params, Record};
 
@@ -85,26 +85,12 @@ pub fn answer_with(code: Code, x1: u64, x2: u64) -> Answer
     }
 }
 
-// Whether the code is OK.
-pub fn is_ok(code: Code) -> bool
-    ensures { result ≡ is_ok code }
-{
-    code == Code::Ok
-}
-
 // Returns `code` if the test holds, otherwise OK: the `first` of `buffer_check::page_gate`.
 pub fn code_if(test: bool, code: Code) -> Code
     ensures value { result ≡ fails test code Code.Ok }
     ensures result_value { number_of result ≡ cond test (number_of code) (pos 0) }
 {
     if test { code } else { Code::Ok }
-}
-
-// Whether a boot record is up.
-pub fn is_up(state: Record) -> bool
-    ensures { result ≡ is_up state }
-{
-    matches!(state, Record::Up(_))
 }
 
 // Returns what the boot record keeps while it is up, otherwise UNK, the code of every command that needs it (RT6).
@@ -114,20 +100,5 @@ pub fn up_params(state: Record) -> Result<Params, Code>
     match state {
         Record::Up(params) => Ok(params),
         Record::Fresh | Record::Closed => Err(Code::Unk),
-    }
-}
-
-// Returns what a boot record keeps; zeros if it is not up.
-pub fn boot_params(state: Record) -> Params
-    ensures { result ≡ boot_params state }
-{
-    match state {
-        Record::Up(params) => params,
-        Record::Fresh | Record::Closed => Params {
-            cpus: 0,
-            base: 0,
-            minor: 0,
-            kept: 0,
-        },
     }
 }

@@ -26,6 +26,7 @@ pub enum Kind {
 }
 
 // The reply to a call: either err_code for the Non-secure world, or the result registers and what the platform must do next.
+// No `Result`, which is no plainer: these are two kinds of reply, neither of which is a failure.
 #[derive(Clone, Copy)]
 pub enum Reply {
     Forward(u64),
@@ -188,7 +189,7 @@ pub fn call(
             }
         }
         Kind::Unlisted => {
-            let answer = codes::answer_with(Code::Unk, 0, 0);
+            let answer = Answer::refused(Code::Unk);
             StepResult {
                 reply: back(answer),
                 session,

@@ -46,9 +46,7 @@ fn queue_at(bytes: &[u8]) -> Queue {
         return Queue::empty();
     }
     let mut image = [0u64; 210];
-    for i in 0..210usize {
-        image[i] = words::word_at(bytes, 8 * i);
-    }
+    vector_io::read_words(bytes, &mut image);
     queue_image::queue_of(&image)
 }
 
@@ -78,14 +76,14 @@ fn print_number(x: u64) {
 }
 
 fn print_byte(x: u8) {
-    io::print_hex(STDOUT, x as u64, 2);
+    io::print_hex(STDOUT, u64::from(x), 2);
 }
 
 // Prints bytes in hex and ends the line.
 fn print_bytes(s: &[u8]) {
     print(b" ");
-    for i in 0..s.len() {
-        print_byte(s[i]);
+    for byte in s {
+        print_byte(*byte);
     }
     print(b"\n");
 }
@@ -173,7 +171,7 @@ fn print_queue(queue: Queue) {
 
 fn print_same(what: &[u8], held: &[u8], expected: &[u8]) {
     print(what);
-    if vector_io::same(held, expected) {
+    if held == expected {
         print(b" same");
     } else {
         print(b" differs");
@@ -328,6 +326,7 @@ fn print_operations(
 ) -> Queue {
     let mut state = state_at(input);
     let count = vector_io::length_at(input, 160, 250);
+    // Counted: the places in an operation are offsets of the whole case, so each step takes the case and an offset, no part of it.
     for i in 0..count {
         let at = 168 + 136 * i;
         state = operate(input, at, page, table, words, state);
@@ -397,11 +396,5 @@ fn print_case(input: &[u8]) {
 
 fn main(rt: HostRuntime) {
     let mut input = [0u8; 32768];
-    for n in 0..1000u64 {
-        let length = vector_io::load(&rt, n, &mut input);
-        if length == 0 {
-            return;
-        }
-        print_case(&input[..length]);
-    }
+    vector_io::each_case(&rt, &mut input, |case| print_case(case));
 }

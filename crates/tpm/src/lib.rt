@@ -15,7 +15,8 @@ const IN_SIZE_MOST: u64 = 4096;
 
 const OUT_SIZE_LEAST: u64 = 4096;
 
-// The return codes of H_TPM_COMM, without their H_ (TP3).
+// The return codes of H_TPM_COMM, without their H_ (TP3). Success stays: H_SUCCESS is one of the codes that the interface lists; the checks
+// return a `Result`.
 #[derive(Clone, Copy, PartialEq, Eq)]
 pub enum ReturnCode {
     Success,

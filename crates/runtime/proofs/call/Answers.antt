@@ -83,4 +83,4 @@ returns-in-Unlisted c =
     let a = c.args in
     let h : kind_of a.id ≡ Unlisted = sym c.from-kind.ensures ∙
     c.in-Unlisted.is in
-    rw (h, c.back-in-Unlisted.ensures, c.answer_with-answer.ensures)
+    rw (h, c.back-in-Unlisted.ensures, c.refused-answer.ensures)
