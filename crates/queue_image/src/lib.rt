@@ -121,7 +121,7 @@ pub fn queue_of(image: &QueueImage) -> Queue
     }
 }
 
-// Writes `bytes` as `n` words at `at`; bytes past their end are 0.
+// Writes `bytes` as `n` words at `at`; bytes past their end are 0: so an index loop, since a signature's bytes may end before the words do.
 fn put_bytes(image: &mut [u64], at: usize, bytes: &[u8], n: usize)
     requires { (at + n ≤ length image.old) × (n ≤ 13) }
     ensures { image.new ≡ splice at (words_of n bytes.now) image.old }
