@@ -81,8 +81,8 @@ fn record_from(shown: &[u8], count: usize) -> GranulesImage
 {
     let mut made = [0u64; GRANULES_WORDS];
     made[0] = count as u64;
-    for i in 0..2 * count {
-        made[i + 1] = words::word_at(shown, 8 * i);
+    for (i, word) in made[1..=2 * count].iter_mut().enumerate() {
+        *word = words::word_at(shown, 8 * i);
     }
     made
 }
