@@ -1,7 +1,8 @@
 -- The set-up: the record that it makes has the banks shown, and when it refuses. Assumes nothing.
-use Rattle.std.proofs.Common.{◌≡◌, ℕ, zero, suc, ◌+◌, ◌-◌, ◌*◌, ◌%◌, ◌<◌, Bool, true, false, cond, eqb, List, ◌∷◌, length, get_or, set, replicate, sym, refl, ap, ◌∙◌, append_assoc, add-one, arith, lt-ltb, eq-eqb, ne_eqb, eqb-true}
+use Rattle.std.proofs.Common.{◌≡◌, ℕ, zero, suc, ◌+◌, ◌-◌, ◌*◌, ◌%◌, ◌<◌, ◌≤◌, take, drop, ◌++◌, Bool, true, false, cond, eqb, List, ◌∷◌, length, get_or, set, replicate, sym, refl, ap, ◌∙◌, append_assoc, add-one, arith, lt-ltb, eq-eqb, ne_eqb, eqb-true}
 use mathlib.Core.Bool.{false≢true}
-use lib.ListN.{get_or-append}
+use lib.ListN.{get_or-append, replicate-append-replicate}
+use Rattle.std.proofs.lemmas.List.{take-replicate, drop-replicate, set-append_left}
 use lib.Seq.{set_at}
 use borrow.Author.Tests.{lt-leb}
 use Rattle.words.specs.Tests.{both, Yes}
@@ -31,6 +32,25 @@ fill_more n i shown h =
 pub record-whole : (n : ℕ) (shown : List ℕ) → record_part n (2 * n) shown ≡ record_from n shown
 unfolding record_part
 record-whole n shown = refl
+
+-- in the loop, which goes over the words of the banks alone: zeros lie after them
+pub words-none : (n k : ℕ) (shown : List ℕ) → n ≤ 16 → k ≡ 2 * n → n ∷ take k (replicate 32 0) ++ replicate (32 - 2 * n) 0 ≡ record_part n 0 shown
+words-none n k shown h e =
+    let j : k + (32 - 2 * n) ≡ 32 = omega arith in
+    ap (λ l. n ∷ l) (rw (take-replicate {X = ℕ} k 32 0 (omega arith)) (replicate-append-replicate {A = ℕ} k (32 - 2 * n) 0 ∙ ap (λ m. replicate m 0) j)) ∙
+    fill_none n shown
+
+pub words-more : (n i : ℕ) (shown items : List ℕ) → i < 32 → i < length items → n ∷ items ++ replicate (32 - 2 * n) 0 ≡ record_part n i shown →
+    n ∷ set items i (word_at (8 * i) shown) ++ replicate (32 - 2 * n) 0 ≡ record_part n (i + 1) shown
+words-more n i shown items h k e =
+    ap (λ l. n ∷ l) (sym (set-append_left items (replicate (32 - 2 * n) 0) i (word_at (8 * i) shown) k)) ∙
+    (let z : suc i ≡ i + 1 = omega arith in ap (λ j. set (n ∷ items ++ replicate (32 - 2 * n) 0) j (word_at (8 * i) shown)) z) ∙
+    ap (λ l. set l (i + 1) (word_at (8 * i) shown)) e ∙ fill_more n i shown h
+
+pub words-whole : (n k : ℕ) (shown items : List ℕ) → k ≡ 2 * n → n ∷ items ++ replicate (32 - 2 * n) 0 ≡ record_part n (2 * n) shown →
+    n ∷ items ++ drop k (replicate 32 0) ≡ record_from n shown
+words-whole n k shown items e h =
+    ap (λ l. n ∷ items ++ l) (drop-replicate {X = ℕ} k 32 0 ∙ ap (λ m. replicate (32 - m) 0) e) ∙ h ∙ record-whole n shown
 
 -- ---- the banks of the record made
 pub word-in : (n i : ℕ) (shown : List ℕ) → i < 2 * n → get_or (record_from n shown) (suc i) 0 ≡ word_at (8 * i) shown

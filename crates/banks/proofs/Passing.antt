@@ -1,8 +1,11 @@
 -- The loop over the banks: what is left to check and to add. Assumes nothing.
-use Rattle.std.proofs.Common.{◌≡◌, ℕ, zero, suc, ◌+◌, ◌-◌, ◌*◌, ◌/◌, ◌%◌, ◌^◌, ◌<◌, ◌≤◌, Bool, true, false, List, [], ◌∷◌, get_or, sym, refl, ◌∙◌, arith, ltb-true, le-ltb, lt-ltb, eqb-true, le-leb, leb-true, Option, Some, None, ltb}
+use Rattle.std.proofs.Common.{◌≡◌, ℕ, zero, suc, ◌+◌, ◌-◌, ◌*◌, ◌/◌, ◌%◌, ◌^◌, ◌<◌, ◌≤◌, Bool, true, false, List, [], ◌∷◌, get_or, length, take, drop, ap, length-drop, sym, refl, ◌∙◌, arith, ltb-true, le-ltb, lt-ltb, eqb-true, le-leb, leb-true, Option, Some, None, ltb}
 use Rattle.std.specs.Option.{option_or}
 use borrow.Author.Tests.{lt-leb}
 use native.Mathlib.Decide.{dec_lt}
+use native.Mathlib.Nat.{mul-zero, mul-suc}
+use lib.Seq.{length-take-le, get_or-take, get_or-drop}
+use Rattle.std.specs.Simd.{first_chunks}
 use Rattle.words.specs.Tests.{both, Yes}
 use Rattle.words.proofs.Tests.{both_l, both_r}
 use Rattle.entries.specs.Entry.{bank_ok}
@@ -51,6 +54,36 @@ banks-more f n i h = go (n - i) refl
 pub or_nothing : (p : Option ℕ) → option_or p None ≡ p
 or_nothing (Some i) = refl
 or_nothing None = refl
+
+-- ---- the banks as pairs of words
+-- the words of one chunk
+chunk-at : (n k i j : ℕ) (ws : List ℕ) → i < k → j < n → get_or (get_or (first_chunks n k ws) i []) j 0 ≡ get_or ws (n * i + j) 0
+chunk-at n zero i j ws h l = absurd (let z : ⊥ = omega arith in z)
+chunk-at n (suc k) zero j ws h l = get_or-take n ws j 0 l ∙ ap (λ x. get_or ws x 0) (let z : j ≡ n * 0 + j = omega (arith, mul-zero n) in z)
+chunk-at n (suc k) (suc i) j ws h l =
+    chunk-at n k i j (drop n ws) (omega arith) l ∙ get_or-drop n ws (n * i + j) 0
+    ∙ ap (λ x. get_or ws x 0) (let z : n + (n * i + j) ≡ n * suc i + j = omega (arith, mul-suc n i) in z)
+
+module _ (g : Granules) (l : length g ≡ 33) (c : ℕ) (m : c ≤ 16) (pairs : List (List ℕ))
+    (e : pairs ≡ first_chunks 2 (length (take 32 (drop 1 g)) / 2) (take 32 (drop 1 g))) where
+  sixteen : length (take 32 (drop 1 g)) / 2 ≡ 16
+  sixteen = let z : length (take 32 (drop 1 g)) ≡ 32 = length-take-le 32 (drop 1 g) (omega (arith, length-drop 1 g)) in rw z
+
+  pair_word : (i j : ℕ) → i < c → j < 2 → get_or (get_or (take c pairs) i []) j 0 ≡ get_or g (1 + 2 * i + j) 0
+  pair_word i j h k =
+      ap (λ p. get_or p j 0) (get_or-take c pairs i [] h) ∙
+      rw e (chunk-at 2 (length (take 32 (drop 1 g)) / 2) i j (take 32 (drop 1 g)) (omega (arith, sixteen)) k) ∙
+      get_or-take 32 (drop 1 g) (2 * i + j) 0 (omega arith) ∙ get_or-drop 1 g (2 * i + j) 0 ∙
+      ap (λ x. get_or g x 0) (let z : 1 + (2 * i + j) ≡ 1 + 2 * i + j = omega arith in z)
+
+  pub pair-base : (i : ℕ) → i < c → get_or (get_or (take c pairs) i []) 0 0 ≡ get_or g (1 + 2 * i) 0
+  pair-base i h = pair_word i 0 h (omega arith) ∙ ap (λ x. get_or g x 0) (let z : 1 + 2 * i + 0 ≡ 1 + 2 * i = omega arith in z)
+
+  pub pair-size : (i : ℕ) → i < c → get_or (get_or (take c pairs) i []) 1 0 ≡ get_or g (2 + 2 * i) 0
+  pair-size i h = pair_word i 1 h (omega arith) ∙ ap (λ x. get_or g x 0) (let z : 1 + 2 * i + 1 ≡ 2 + 2 * i = omega arith in z)
+
+  pub pairs-many : length pairs ≡ length (take 32 (drop 1 g)) / 2 → length (take c pairs) ≡ c
+  pairs-many n = length-take-le c pairs (omega (arith, n, sixteen))
 
 -- ---- the loop before bank i: the result depends on what is left
 abbrev pub banks_from : List ℕ → ℕ → List Bank

@@ -62,9 +62,9 @@ pub fn granule_count(granules: &GranulesImage) -> u64
     }
     let mut low: u64 = 0;
     let mut sum: u64 = 0;
-    for i in 0..(count as usize) {
-        let base = granules[1 + 2 * i];
-        let size = granules[2 + 2 * i];
+    let (banks, _) = granules[1..].as_chunks::<2>();
+    for bank in &banks[..count as usize] {
+        let [base, size] = *bank;
         if !bank_follows(low, base, size) {
             return 0;
         }
@@ -81,8 +81,8 @@ fn record_from(shown: &[u8], count: usize) -> GranulesImage
 {
     let mut made = [0u64; GRANULES_WORDS];
     made[0] = count as u64;
-    for i in 0..2 * count {
-        made[i + 1] = words::word_at(shown, 8 * i);
+    for (i, word) in made[1..=2 * count].iter_mut().enumerate() {
+        *word = words::word_at(shown, 8 * i);
     }
     made
 }
@@ -163,9 +163,9 @@ fn bank_of(granules: &GranulesImage, address: u64) -> BankSpan
         return no_bank();
     }
     let mut before: u64 = 0;
-    for i in 0..(count as usize) {
-        let base = granules[1 + 2 * i];
-        let size = granules[2 + 2 * i];
+    let (banks, _) = granules[1..].as_chunks::<2>();
+    for bank in &banks[..count as usize] {
+        let [base, size] = *bank;
         if bank_holds(base, size, address) {
             return BankSpan { base, size, before };
         }

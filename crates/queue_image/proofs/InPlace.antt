@@ -5,59 +5,22 @@ use mathlib.Core.List.{List, [], ◌∷◌, map}
 use native.Mathlib.Nat.{mul-zero, suc-sub-suc, sub-zero}
 use native.Mathlib.Numerals.{add-one}
 use native.Mathlib.Omega.{arith}
-use lib.ListN.{length, take, drop, get_or, set, replicate, length-drop, length-take, length-replicate, replicate-append-replicate}
-use lib.Seq.{length-take-le, drop-drop, take-suc, get_or-drop}
+use lib.ListN.{length, take, drop, get_or, set, replicate, length-drop, length-take}
+use lib.Seq.{length-take-le, drop-drop}
 use borrow.Author.Tests.{lt-ltb, le-ltb}
 use Rattle.words.specs.Word.{part, bytes_of, splice}
-use Rattle.words.proofs.Store.{drop-splice, splice-splice}
+use Rattle.words.proofs.Store.{splice-splice}
 use Rattle.words.proofs.Lists.{bytes_of-length}
 use Rattle.queue.specs.Queue.{signed_in, oldest_request, oldest_response}
 use Rattle.queue_image.specs.Image.{rows, request_in, held_in, response_in, lists_in}
 use Rattle.queue_image.specs.Sides.{Side, request_side, response_side, rows_waiting, rows_in, row_joined, row_dropped}
 use Rattle.queue_image.specs.Steps.{row_appended}
-use Rattle.queue_image.proofs.Rows.{mul-more, drop-take, row_at, splice-none, put_first, put_next}
+use Rattle.queue_image.proofs.Rows.{mul-more, drop-take, row_at, put_first}
 use Rattle.queue_image.proofs.Sides.{waits}
 
--- ---- words moved up, one by one
-module _ (start width : ℕ) (s : List ℕ) where
-  -- the first n of them
-  unfoldable pub up_to : ℕ → List ℕ
-  up_to n = splice start (part (start + width) n s) s
-
-  pub up_none : s ≡ up_to 0
-  unfolding up_to part
-  up_none = splice-none start s
-
-  pub up_more : (i : ℕ) → start + width + i < length s → set (up_to i) (start + i) (get_or (up_to i) (start + width + i) 0) ≡ up_to (i + 1)
-  unfolding up_to part
-  up_more i h =
-      let vs : List ℕ = take i (drop (start + width) s) in
-      let k : i < length (drop (start + width) s) = omega (arith, length-drop (start + width) s) in
-      let l : length vs ≡ i = length-take-le i (drop (start + width) s) (omega arith) in
-      let e : start + width + i ≡ start + length vs + width = omega arith in
-      let x : get_or (splice start vs s) (start + width + i) 0 ≡ get_or (drop (start + width) s) i 0 =
-      ap (λ (j : ℕ). get_or (splice start vs s) j 0) e ∙ sym (get_or-drop (start + length vs) (splice start vs s) width 0)
-      ∙ ap (λ (t : List ℕ). get_or t width 0) (drop-splice start vs s (omega arith)) ∙ get_or-drop (start + length vs) s width 0
-      ∙ ap (λ (j : ℕ). get_or s j 0) (sym e) ∙ sym (get_or-drop (start + width) s i 0) in
-      rw (x, add-one, take-suc (drop (start + width) s) i 0 k)
-      (ap (λ (j : ℕ). set (splice start vs s) (start + j) (get_or (drop (start + width) s) i 0)) (sym l) ∙
-      put_next start vs s (get_or (drop (start + width) s) i 0) (omega arith))
-
--- ---- zeros written, one by one
-module _ (at : ℕ) (s : List ℕ) where
-  unfoldable pub zeros_to : ℕ → List ℕ
-  zeros_to n = splice at (replicate n 0) s
-
-  pub zeros-none : s ≡ zeros_to 0
-  unfolding zeros_to
-  zeros-none = splice-none at s
-
-  pub zeros-more : (i : ℕ) → at + i < length s → set (zeros_to i) (at + i) 0 ≡ zeros_to (i + 1)
-  unfolding zeros_to
-  zeros-more i h =
-      let l : length (replicate {A = ℕ} i 0) ≡ i = length-replicate {A = ℕ} i 0 in
-      rw (← replicate-append-replicate {A = ℕ} i 1 0)
-      (ap (λ (j : ℕ). set (splice at (replicate i 0) s) (at + j) 0) (sym l) ∙ put_next at (replicate i 0) s 0 (omega arith))
+-- ---- words moved up: the first n of them
+unfoldable pub up_to : (start width : ℕ) → List ℕ → ℕ → List ℕ
+up_to start width s n = splice start (part (start + width) n s) s
 
 -- ---- the oldest row dropped
 -- the rows after it

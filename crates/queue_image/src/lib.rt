@@ -2,14 +2,14 @@
 // oldest. `queue_of` reads an image as a queue by value. Any image is a valid input, including one that no queue has.
 #![tactic(auto)]
 
-ghost use Rattle.std.specs.Prelude.{◌≡◌, min, ◌+◌, ◌-◌, ◌*◌, ◌<◌, ◌≤◌, length, get_or, replicate};
+ghost use Rattle.std.specs.Prelude.{◌≡◌, min, ◌+◌, ◌-◌, ◌*◌, ◌<◌, ◌≤◌, length, map, drop, get_or, replicate, ℕ, List};
 ghost use Rattle.words.specs.Word.{part, words_of, splice};
 ghost use Rattle.queue.specs.Queue.{signed_in};
-ghost use Rattle.queue_image.specs.Image.{request_in, held_in, response_in, lists_in, queue_in, request_words, response_words, oldest_words};
+ghost use Rattle.queue_image.specs.Image.{rows, request_in, held_in, response_in, lists_in, queue_in, request_words, response_words, oldest_words};
 ghost use Rattle.queue_image.specs.Sides.{request_side, response_side, row_dropped};
 ghost use Rattle.queue_image.specs.Steps.{row_appended};
 
-use queue::{HASH_BYTES, PLACES, Queue, Request, Response, SIGNATURE_BYTES, Side};
+use queue::{Entry, HASH_BYTES, PLACES, Queue, Request, Response, SIGNATURE_BYTES, Side};
 
 // The image: the number of requests, the number of responses, eight requests, eight responses.
 pub const QUEUE_WORDS: usize = 210;
@@ -45,83 +45,7 @@ const PLACES_WORD: u64 = 8;
 
 const SIGNATURE_WORD: u64 = 104;
 
-// Reads the request in the ten words at `at`.
-fn request_in(image: &[u64], at: usize) -> Request
-    requires { at + 10 ≤ length image.now }
-    ensures { result ≡ request_in (part at 10 image.now) }
-{
-    let from = at + HASH_AT;
-    let to = at + REQUEST_WORDS;
-    let mut hash = [0u8; HASH_BYTES];
-    words::put_words(&mut hash, 0, &image[from..to]);
-    Request {
-        algorithm: image[at],
-        granule: image[at + 1],
-        ticket: image[at + 2],
-        hashid: image[at + 3],
-        hash,
-    }
-}
-
-// Reads the response in the sixteen words at `at`.
-fn response_in(image: &[u64], at: usize) -> Response
-    requires { at + 16 ≤ length image.now }
-    ensures { result ≡ held_in (part at 16 image.now) }
-{
-    let from = at + SIGNATURE_AT;
-    let to = at + RESPONSE_WORDS;
-    let mut signature = [0u8; SIGNATURE_BYTES];
-    words::put_words(&mut signature, 0, &image[from..to]);
-    Response {
-        granule: image[at],
-        ticket: image[at + 1],
-        len: image[at + 2] as usize,
-        signature,
-    }
-}
-
-// Reads all eight places of the requests; `count` is the image's own number.
-fn requests_in(image: &[u64]) -> Side<Request>
-    requires { length image.now ≡ 210 }
-    ensures { result ≡ (queue_in image.now).requests }
-{
-    let mut items = [request_in(image, FIRST_REQUEST); PLACES];
-    for i in 0..PLACES {
-        items[i] = request_in(image, FIRST_REQUEST + REQUEST_WORDS * i);
-    }
-    Side {
-        items,
-        count: image[REQUESTS] as usize,
-    }
-}
-
-fn responses_in(image: &[u64]) -> Side<Response>
-    requires { length image.now ≡ 210 }
-    ensures { result ≡ (queue_in image.now).responses }
-{
-    let mut items = [response_in(image, FIRST_RESPONSE); PLACES];
-    for i in 0..PLACES {
-        items[i] = response_in(image, FIRST_RESPONSE + RESPONSE_WORDS * i);
-    }
-    Side {
-        items,
-        count: image[RESPONSES] as usize,
-    }
-}
-
-// Reads the image as a queue by value.
-pub fn queue_of(image: &QueueImage) -> Queue
-    ensures { result ≡ queue_in image.now }
-{
-    let requests = requests_in(image);
-    let responses = responses_in(image);
-    Queue {
-        requests,
-        responses,
-    }
-}
-
-// Writes `bytes` as `n` words at `at`; bytes past their end are 0.
+// Writes `bytes` as `n` words at `at`; bytes past their end are 0: so an index loop, since a signature's bytes may end before the words do.
 fn put_bytes(image: &mut [u64], at: usize, bytes: &[u8], n: usize)
     requires { (at + n ≤ length image.old) × (n ≤ 13) }
     ensures { image.new ≡ splice at (words_of n bytes.now) image.old }
@@ -131,29 +55,141 @@ fn put_bytes(image: &mut [u64], at: usize, bytes: &[u8], n: usize)
     }
 }
 
-// Writes the ten words of a request at `at`.
-fn put_request(image: &mut [u64], at: usize, request: Request)
-    requires { at + 10 ≤ length image.old }
-    ensures { image.new ≡ splice at (request_words request) image.old }
-{
-    let hash = request.hash;
-    image[at] = request.algorithm;
-    image[at + 1] = request.granule;
-    image[at + 2] = request.ticket;
-    image[at + 3] = request.hashid;
-    put_bytes(image, at + HASH_AT, &hash, HASH_WORDS);
+// An entry as a row of the image. The image has its number at NUMBER, and eight rows of WORDS words from FIRST.
+trait Row: Entry {
+    ghost NUMBER: { ℕ };
+
+    ghost FIRST: { ℕ };
+
+    ghost WORDS: { ℕ };
+
+    ghost of_row: { List ℕ → Self };
+
+    ghost as_row: { Self → List ℕ };
+
+    const NUMBER: usize;
+
+    const FIRST: usize;
+
+    const WORDS: usize;
+
+    // Reads the row at `at`.
+    fn read(image: &[u64], at: usize) -> Self
+        requires { at + WORDS ≤ length image.now }
+        ensures { result ≡ of_row (part at WORDS image.now) };
+
+    // Writes the row at `at`.
+    fn put(self, image: &mut [u64], at: usize)
+        requires { at + WORDS ≤ length image.old }
+        ensures { image.new ≡ splice at (as_row self) image.old };
 }
 
-fn put_response(image: &mut [u64], at: usize, response: Response)
-    requires { at + 16 ≤ length image.old }
-    ensures { image.new ≡ splice at (response_words (signed_in response)) image.old }
+impl Row for Request {
+    ghost NUMBER = { 0 };
+
+    ghost FIRST = { 2 };
+
+    ghost WORDS = { 10 };
+
+    ghost of_row = { request_in };
+
+    ghost as_row = { request_words };
+
+    const NUMBER: usize = REQUESTS;
+
+    const FIRST: usize = FIRST_REQUEST;
+
+    const WORDS: usize = REQUEST_WORDS;
+
+    fn read(image: &[u64], at: usize) -> Request {
+        let from = at + HASH_AT;
+        let to = at + REQUEST_WORDS;
+        let mut hash = [0u8; HASH_BYTES];
+        words::put_words(&mut hash, 0, &image[from..to]);
+        Request {
+            algorithm: image[at],
+            granule: image[at + 1],
+            ticket: image[at + 2],
+            hashid: image[at + 3],
+            hash,
+        }
+    }
+
+    fn put(self, image: &mut [u64], at: usize) {
+        let hash = self.hash;
+        image[at] = self.algorithm;
+        image[at + 1] = self.granule;
+        image[at + 2] = self.ticket;
+        image[at + 3] = self.hashid;
+        put_bytes(image, at + HASH_AT, &hash, HASH_WORDS);
+    }
+}
+
+impl Row for Response {
+    ghost NUMBER = { 1 };
+
+    ghost FIRST = { 82 };
+
+    ghost WORDS = { 16 };
+
+    ghost of_row = { held_in };
+
+    ghost as_row = { λ r. response_words (signed_in r) };
+
+    const NUMBER: usize = RESPONSES;
+
+    const FIRST: usize = FIRST_RESPONSE;
+
+    const WORDS: usize = RESPONSE_WORDS;
+
+    fn read(image: &[u64], at: usize) -> Response {
+        let from = at + SIGNATURE_AT;
+        let to = at + RESPONSE_WORDS;
+        let mut signature = [0u8; SIGNATURE_BYTES];
+        words::put_words(&mut signature, 0, &image[from..to]);
+        Response {
+            granule: image[at],
+            ticket: image[at + 1],
+            len: image[at + 2] as usize,
+            signature,
+        }
+    }
+
+    fn put(self, image: &mut [u64], at: usize) {
+        let n = queue::signature_len(self);
+        let signature = self.signature;
+        image[at] = self.granule;
+        image[at + 1] = self.ticket;
+        image[at + 2] = n as u64;
+        put_bytes(image, at + SIGNATURE_AT, &signature[..n], SIGNATURE_WORDS);
+    }
+}
+
+// Reads all eight places of a side; `count` is the image's own number.
+fn side_in<T: Row>(image: &[u64]) -> Side<T>
+    requires { (T.NUMBER < T.FIRST) × (T.FIRST + T.WORDS * 8 ≤ length image.now) }
+    ensures { result ≡ record { items = map T.of_row (rows T.WORDS 8 (drop T.FIRST image.now)); count = get_or image.now T.NUMBER 0 } }
 {
-    let n = queue::signature_len(response);
-    let signature = response.signature;
-    image[at] = response.granule;
-    image[at + 1] = response.ticket;
-    image[at + 2] = n as u64;
-    put_bytes(image, at + SIGNATURE_AT, &signature[..n], SIGNATURE_WORDS);
+    let mut items = [T::read(image, T::FIRST); PLACES];
+    for (i, item) in items.iter_mut().enumerate() {
+        *item = T::read(image, T::FIRST + T::WORDS * i);
+    }
+    Side {
+        items,
+        count: image[T::NUMBER] as usize,
+    }
+}
+
+// Reads the image as a queue by value.
+pub fn queue_of(image: &QueueImage) -> Queue
+    ensures { result ≡ queue_in image.now }
+{
+    let requests = side_in(image);
+    let responses = side_in(image);
+    Queue {
+        requests,
+        responses,
+    }
 }
 
 // Returns min(8, image[number]): the number of rows that wait on a side.
@@ -178,28 +214,31 @@ pub fn responses_waiting(image: &QueueImage) -> usize
     rows_waiting(image, RESPONSES)
 }
 
+// Adds a row at the end of its side; leaves the image unchanged if eight wait.
+fn add_row<T: Row>(image: &mut [u64], entry: T)
+    requires { (T.NUMBER < T.FIRST) × (T.FIRST + T.WORDS * 8 ≤ length image.old) }
+    ensures { image.new ≡ row_appended (record { number = T.NUMBER; start = T.FIRST; width = T.WORDS }) (T.as_row entry) image.old }
+{
+    let n = rows_waiting(image, T::NUMBER);
+    if PLACES <= n {
+        return;
+    }
+    entry.put(image, T::FIRST + T::WORDS * n);
+    image[T::NUMBER] = (n + 1) as u64;
+}
+
 // Adds a request at the end; leaves the image unchanged if eight wait.
 pub fn add_request(image: &mut QueueImage, request: Request)
     ensures { image.new ≡ row_appended request_side (request_words request) image.old }
 {
-    let n = rows_waiting(image, REQUESTS);
-    if PLACES <= n {
-        return;
-    }
-    put_request(image, FIRST_REQUEST + REQUEST_WORDS * n, request);
-    image[REQUESTS] = (n + 1) as u64;
+    add_row(image, request);
 }
 
 // Adds a response at the end; leaves the image unchanged if eight wait.
 pub fn add_response(image: &mut QueueImage, response: Response)
     ensures { image.new ≡ row_appended response_side (response_words (signed_in response)) image.old }
 {
-    let n = rows_waiting(image, RESPONSES);
-    if PLACES <= n {
-        return;
-    }
-    put_response(image, FIRST_RESPONSE + RESPONSE_WORDS * n, response);
-    image[RESPONSES] = (n + 1) as u64;
+    add_row(image, response);
 }
 
 // Moves `n` words from `start + width` to `start`.
@@ -257,14 +296,14 @@ pub fn remove_response(image: &mut QueueImage)
 pub fn front_request(image: &QueueImage) -> Request
     ensures { result ≡ request_in (part 2 10 image.now) }
 {
-    request_in(image, FIRST_REQUEST)
+    Request::read(image, FIRST_REQUEST)
 }
 
 // Returns the response in the first place: the oldest, if one waits.
 pub fn front_response(image: &QueueImage) -> Response
     ensures { result ≡ held_in (part 82 16 image.now) }
 {
-    response_in(image, FIRST_RESPONSE)
+    Response::read(image, FIRST_RESPONSE)
 }
 
 // Returns the number of bytes of the signature in the response at `at`; a length above 104 counts as 104.
@@ -290,6 +329,6 @@ pub fn oldest_words(image: &QueueImage) -> RequestImage
     if image[REQUESTS] == 0 {
         return row;
     }
-    put_request(&mut row, 0, request_in(image, FIRST_REQUEST));
+    Request::read(image, FIRST_REQUEST).put(&mut row, 0);
     row
 }

@@ -8,4 +8,4 @@ returns-then-image-eq0 c = no-request c.args.image.now (search rules)
 pub returns : goal.returns
 returns c =
     let w = c.args.image.now in
-    rw (c.put_request.ensures, c.request_in.ensures) (a-request w (search rules))
+    rw (c.put.ensures, c.read.ensures) (a-request w (search rules))

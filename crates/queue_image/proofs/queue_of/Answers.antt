@@ -1,4 +1,6 @@
+use Rattle.queue_image.specs.Image.{queue_in}
 use Rattle.queue_image.proofs.queue_of.Goals as goal
 
 pub returns : goal.returns
-returns c = rw (c.requests_in-requests.ensures, c.responses_in-responses.ensures)
+unfolding queue_in
+returns c = rw (c.side_in-requests.ensures, c.side_in-responses.ensures)

@@ -11,7 +11,7 @@ use Rattle.queue.proofs.Sides.{taken-all}
 use Rattle.queue_image.specs.Image.{response_words}
 use Rattle.queue_image.proofs.Rows.{put_three}
 use borrow.Author.Rules.{rules}
-use Rattle.queue_image.proofs.put_response.Goals as goal
+use Rattle.queue_image.proofs.ResponseRow.put.Goals as goal
 
 pub bounds-image-at-2 : goal.bounds-image-at-2
 bounds-image-at-2 c = simp length-set (omega arith)
@@ -21,12 +21,12 @@ bounds-image-at-3 c = simp length-set (omega arith)
 
 pub slice_bounds-signature-end : goal.slice_bounds-signature-end
 slice_bounds-signature-end c =
-    let l : length c.args.response.signature ≡ 104 = search rules in
+    let l : length c.args.self.signature ≡ 104 = search rules in
     omega (arith, c.signature_len-n.ensures.1)
 
 pub slice_bounds-put_bytes-end : goal.slice_bounds-put_bytes-end
 slice_bounds-put_bytes-end c =
-    let s = c.args.response.signature in
+    let s = c.args.self.signature in
     let l : length s ≡ 104 = search rules in
     sym (length-take-le c.signature_len-n.result s
     (omega (arith, c.signature_len-n.ensures.1)))
@@ -41,7 +41,7 @@ pub returns : goal.returns
 unfolding response_words signed_in
 returns c =
     let a = c.args in
-    let r = a.response in
+    let r = a.self in
     let s = a.image.now in
     let n = c.signature_len-n.result in
     let e = c.signature_len-n.ensures.0 in

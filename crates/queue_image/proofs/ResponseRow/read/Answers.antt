@@ -5,7 +5,7 @@ use lib.ListN.{replicate}
 use Rattle.queue_image.specs.Image.{held_in}
 use Rattle.queue_image.proofs.Rows.{row_first, row_at, row-bytes}
 use borrow.Author.Rules.{rules}
-use Rattle.queue_image.proofs.response_in.Goals as goal
+use Rattle.queue_image.proofs.ResponseRow.read.Goals as goal
 
 pub returns : goal.returns
 unfolding held_in

@@ -5,7 +5,7 @@ use lib.ListN.{replicate}
 use Rattle.queue_image.specs.Image.{request_in}
 use Rattle.queue_image.proofs.Rows.{row_first, row_at, row-bytes}
 use borrow.Author.Rules.{rules}
-use Rattle.queue_image.proofs.request_in.Goals as goal
+use Rattle.queue_image.proofs.RequestRow.read.Goals as goal
 
 pub returns : goal.returns
 unfolding request_in

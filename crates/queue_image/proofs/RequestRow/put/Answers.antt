@@ -8,7 +8,7 @@ use Rattle.words.proofs.Store.{splice-splice}
 use Rattle.queue_image.specs.Image.{request_words}
 use Rattle.queue_image.proofs.Rows.{put_four}
 use borrow.Author.Rules.{rules}
-use Rattle.queue_image.proofs.put_request.Goals as goal
+use Rattle.queue_image.proofs.RequestRow.put.Goals as goal
 
 pub bounds-image-at-2 : goal.bounds-image-at-2
 bounds-image-at-2 c = simp length-set (omega arith)
@@ -29,7 +29,7 @@ pub returns : goal.returns
 unfolding request_words
 returns c =
     let a = c.args in
-    let r = a.request in
+    let r = a.self in
     let s = a.image.now in
     c.put_bytes.ensures
     ∙ ap (splice (a.at + 4) (words_of 6 r.hash)) (put_four s a.at r.algorithm r.granule r.ticket r.hashid (omega arith))
