@@ -2,7 +2,7 @@
 #![tactic(auto)]
 
 ghost use Rattle.std.specs.Prelude.{◌≡◌, cond, pos};
-ghost use Rattle.codes.specs.Codes.{number_of, x0_of, answer_of, fails, boot_params, when_up, gated};
+ghost use Rattle.codes.specs.Codes.{number_of, x0_of, answer_of, fails, is_up, boot_params, when_up, gated};
 
 use boot::{Params, Record};
 
@@ -91,6 +91,13 @@ pub fn code_if(test: bool, code: Code) -> Code
     ensures result_value { number_of result ≡ cond test (number_of code) (pos 0) }
 {
     if test { code } else { Code::Ok }
+}
+
+// Whether a boot record is up.
+pub fn is_up(state: Record) -> bool
+    ensures { result ≡ is_up state }
+{
+    matches!(state, Record::Up(_))
 }
 
 // Returns what the boot record keeps while it is up, otherwise UNK, the code of every command that needs it (RT6).
