@@ -133,8 +133,10 @@ fn root() -> PathBuf {
     Path::new(env!("CARGO_MANIFEST_DIR")).join("..")
 }
 
-/// Name and text of a number that this line of Rust or Rattle defines: a constant, or the length of an array type.
+/// Name and text of a number that this line of Rust or Rattle defines: a constant, or the length of an array type. A struct is no number,
+/// and a constant of an impl that is another constant's name has the row of that one.
 fn defined(line: &str) -> Option<(&str, &str)> {
+    let inside = line.starts_with(' ');
     let line = line.trim_start();
     let line = line
         .strip_prefix("pub(super) ")
@@ -143,7 +145,9 @@ fn defined(line: &str) -> Option<(&str, &str)> {
     let line = line.split(';').collect::<Vec<_>>();
     if let Some(rest) = line[0].strip_prefix("const ") {
         let (name, rest) = rest.split_once(':')?;
-        return Some((name, rest.split_once('=')?.1));
+        let text = rest.split_once('=')?.1;
+        let named = text.trim().chars().all(|c| c.is_ascii_uppercase() || c == '_');
+        return (!text.contains('{') && !(inside && named)).then_some((name, text));
     }
     let (name, _) = line[0].strip_prefix("type ")?.split_once(" = [")?;
     Some((name, line.get(1)?.strip_suffix(']')?))
