@@ -7,3 +7,4 @@ pub mod Runs
 pub mod Numbers
 pub mod Samples
 pub mod Theorems
+pub mod Copies

@@ -3,7 +3,7 @@
 #![tactic(auto)]
 
 ghost use Rattle.std.specs.Prelude.{◌≡◌, length, false, IfErr};
-ghost use Rattle.words.specs.Word.{on_from};
+ghost use Rattle.words.specs.Word.{laid, on_from};
 ghost use Rattle.tpm.specs.declared.TpmSession.TheVariants.{None};
 ghost use Rattle.tpm.specs.ReturnCodes.{hcall_number, is_success, code_of};
 ghost use Rattle.tpm.specs.Comm.{buffer_checks, buffers_checks, request_code, step_left, comm_of, tpm_request, tpm_request_span};
@@ -143,6 +143,19 @@ fn request_check(asked: Arguments, len: u64, forbidden: bool) -> Result<(), Retu
     buffers_check(asked, len)
 }
 
+// Copies all of `from` to the start of `to`. If `to` is shorter, no byte changes. A loop by index: std's copy, which `words::copy` calls, needs
+// memmove, and this archive needs no more than memcpy and memset (tests/c/run_tpm).
+fn copy(to: &mut [u8], from: &[u8])
+    ensures { to.new ≡ laid 0 from.now to.old }
+{
+    if to.len() < from.len() {
+        return;
+    }
+    for i in 0..from.len() {
+        to[i] = from[i];
+    }
+}
+
 // H_TPM_COMM. Execute writes the platform's response at `outbuffer` and opens a session unless one is open; r4 is the length of the
 // response. Close closes the session. A refused call changes nothing. Read the request before this call: the response may overwrite it.
 pub fn comm(
@@ -187,7 +200,7 @@ pub fn comm(
         };
     }
     let at = asked.outbuffer as usize;
-    words::copy(&mut memory[at..], response);
+    copy(&mut memory[at..], response);
     CommResult {
         code: ReturnCode::Success,
         r4: written,
