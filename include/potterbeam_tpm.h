@@ -103,7 +103,7 @@ extern "C" {
  *          PBEAM_TPM_SESSION_OPEN, also if it was open before.
  *          accepted close: the memory unchanged; *r4 is 0; *session is PBEAM_TPM_SESSION_NONE, even if no session was open.
  *          refused: the memory and *session unchanged, for any number in *session; *r4 is 0.
- * Stack    128 bytes; AArch64 96
+ * Stack    128 bytes; AArch64 64
  */
 PBEAM_MUST_CHECK PBEAM_NONNULL(1, 13)
 int64_t pbeam_tpm_comm(uint64_t *PBEAM_RESTRICT session, uint64_t operation, uint64_t in_buffer, uint64_t in_size, uint64_t out_buffer,
