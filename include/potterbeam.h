@@ -600,7 +600,7 @@ uint64_t pbeam_kept_for(const uint8_t *page, size_t page_len, const uint64_t vie
  * Leaves   the page unchanged. text: ASCII from its first byte, each line ended by '\n', no '\0' at the end; as much as fits. Bytes
  *          after the text are unchanged. For a refused page the text is one line, "refused -5", "refused -6" or
  *          "refused -7", with the code of pbeam_read.
- * Stack    704 bytes; AArch64 800
+ * Stack    640 bytes; AArch64 704
  * A field is its tag and the length of its value in decimal, and each byte of the value as two lower-case hex digits, separated by blanks;
  * the withdrawn one is "3 withdrawn".
  * A word is 0x and 16 lower-case hex digits, a console's name 16 such digits without 0x for its 8 bytes in order; the flags of a
@@ -626,7 +626,7 @@ size_t pbeam_listing(const uint8_t *page, size_t page_len, uint64_t base, uint64
  * Leaves   the whole page written: version, the sections, the arrays directly after the core in section order, then the fields with their
  *          end mark and plat_data pointing at them, or plat_data 0 without fields; zero everywhere else. An empty list becomes a section
  *          of 24 zero bytes. Refused, the page is unchanged. Lists and fields are unchanged.
- * Stack    448 bytes; AArch64 768
+ * Stack    416 bytes; AArch64 768
  */
 PBEAM_MUST_CHECK
 uint32_t pbeam_write(uint64_t base, uint64_t edition, const uint64_t *dram, size_t dram_len, const uint64_t *console, size_t console_len,

@@ -123,7 +123,7 @@ uint32_t pbeam_swtpm_read_request(const uint8_t *message, size_t message_len, ui
  * Returns  PBEAM_SWTPM_OK, or:
  *          PBEAM_SWTPM_NO_ROOM     the buffer has fewer than 16 bytes
  * Leaves   on OK the message in the buffer's first 16 bytes, the bytes after it unchanged, and 16 in *len.
- * Stack    32 bytes; AArch64 0
+ * Stack    32 bytes; AArch64 32
  */
 PBEAM_MUST_CHECK PBEAM_NONNULL(7)
 uint32_t pbeam_swtpm_write_request(uint8_t *PBEAM_RESTRICT buffer, size_t buffer_len, uint32_t code, uint32_t flags, uint32_t type,
@@ -152,7 +152,7 @@ uint32_t pbeam_swtpm_read_response(const uint8_t *message, size_t message_len, u
  *          PBEAM_SWTPM_ABOVE_LARGEST  data_len is above largest
  *          PBEAM_SWTPM_NO_ROOM        the buffer has fewer than 16 + data_len bytes
  * Leaves   the data unchanged. On OK the message at the buffer's start, the bytes after it unchanged, and 16 + data_len in *len.
- * Stack    96 bytes; AArch64 64
+ * Stack    96 bytes; AArch64 32
  */
 PBEAM_MUST_CHECK PBEAM_NONNULL(9)
 uint32_t pbeam_swtpm_write_response(uint8_t *PBEAM_RESTRICT buffer, size_t buffer_len, uint32_t largest, uint32_t result, uint32_t flags,
@@ -169,7 +169,7 @@ uint32_t pbeam_swtpm_write_response(uint8_t *PBEAM_RESTRICT buffer, size_t buffe
  *          PBEAM_SWTPM_NO_DATA        no new bytes, and fewer held than totlength
  * Leaves   the message unchanged. On OK the data after the bytes held, every other byte of the buffer unchanged, and the collector's
  *          count of bytes held increased by the length of the data.
- * Stack    96 bytes; AArch64 64
+ * Stack    96 bytes; AArch64 0
  * state_flags are not checked. If each accepted response was cut from one blob at the number of bytes then held, with that blob's length
  * as totlength, the buffer starts with the blob's first bytes: request offset pbeam_swtpm_held each time. (swtpm 0.7.1 differs: one
  * response carries all remaining bytes, and its totlength counts from the offset. Send it one request, with offset 0. See docs/SWTPM.md.)

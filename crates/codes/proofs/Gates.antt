@@ -112,6 +112,14 @@ up_stood Fresh j h = (refl, sym (stood _ _ j h).0)
 up_stood (Up v) j h = absurd (true≢false (ap is_ok (stood _ _ j h).0 ∙ (stood _ _ j h).1))
 up_stood Closed j h = (refl, sym (stood _ _ j h).0)
 
+pub up-goes : (r : Record) (u : Params) → is_up r ≡ true → u ≡ boot_params r → Go u ≡ gated (when_up r Ok) (boot_params r)
+unfolding when_up is_false fails gated
+up-goes r u h e = rw (h, e)
+
+pub up-stops : (r : Record) → is_up r ≡ false → Err Unk ≡ gated (when_up r Ok) (boot_params r)
+unfolding when_up is_false fails gated
+up-stops r h = rw h
+
 -- ---- what a call leaves
 -- a property of the result follows if it holds of the new value after OK and of the old value after a refusal
 pub if-ok-by : {A : Type 0} (P : A → Type 0) (k : Code) (new old : A) → (k ≡ Ok → P new) → (is_ok k ≡ false → P old) → P (if_ok k new old)

@@ -100,12 +100,28 @@ pub fn is_up(state: Record) -> bool
     matches!(state, Record::Up(_))
 }
 
+// Returns what a boot record keeps; zeros if it is not up.
+pub fn boot_params(state: Record) -> Params
+    ensures { result ≡ boot_params state }
+{
+    match state {
+        Record::Up(params) => params,
+        Record::Fresh | Record::Closed => Params {
+            cpus: 0,
+            base: 0,
+            minor: 0,
+            kept: 0,
+        },
+    }
+}
+
 // Returns what the boot record keeps while it is up, otherwise UNK, the code of every command that needs it (RT6).
 pub fn up_params(state: Record) -> Result<Params, Code>
     ensures { result ≡ gated (when_up state Code.Ok) (boot_params state) }
 {
-    match state {
-        Record::Up(params) => Ok(params),
-        Record::Fresh | Record::Closed => Err(Code::Unk),
+    if is_up(state) {
+        Ok(boot_params(state))
+    } else {
+        Err(Code::Unk)
     }
 }

@@ -19,13 +19,13 @@ use Rattle.features.specs.declared.UpdateResult.{UpdateResult}
 two_pos : (k : ℕ) → 0 < 2 ^ k
 two_pos k = pow-le-pow_right (lit≤ tt) {i = 0} (omega arith)
 
-bits_in : (k x : ℕ) → x / 2 ^ k ≡ 0 → ltb (2 ^ k - 1) x ≡ false
+pub bits_in : (k x : ℕ) → x / 2 ^ k ≡ 0 → ltb (2 ^ k - 1) x ≡ false
 bits_in k x h =
     let p = two_pos k in
     let q : x < 1 * 2 ^ k = (div-lt_iff_lt-mul p).0 (omega arith) in
     le-ltb (2 ^ k - 1) x (omega arith)
 
-bits_out : (k x : ℕ) → (x / 2 ^ k ≡ 0 → ⊥) → ltb (2 ^ k - 1) x ≡ true
+pub bits_out : (k x : ℕ) → (x / 2 ^ k ≡ 0 → ⊥) → ltb (2 ^ k - 1) x ≡ true
 bits_out k x h =
     let p = two_pos k in
     let n : 1 ≤ x / 2 ^ k = omega arith in

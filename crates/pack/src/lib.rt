@@ -54,7 +54,7 @@ fn put_bytes(target: &mut [u8], at: usize, bytes: &[u8]) -> usize
     if target.len() - at < bytes.len() {
         return target.len();
     }
-    words::copy(&mut target[at..], bytes);
+    words::copy_by_words(&mut target[at..], bytes);
     at + bytes.len()
 }
 

@@ -81,7 +81,7 @@ impl Collector {
     {
         let held = self.bytes_held();
         let end = held + bytes.len();
-        words::copy(&mut buffer[held..], bytes);
+        words::copy_by_words(&mut buffer[held..], bytes);
         *self = Collector {
             total: Some(total),
             held: end as u32,

@@ -224,6 +224,6 @@ pub fn write_response(
     let whole = response_length(len);
     check_room(buffer, whole)?;
     put_head(buffer, header.result, header.flags, header.total, len);
-    words::copy(&mut buffer[16..], bytes);
+    words::copy_by_words(&mut buffer[16..], bytes);
     Ok(whole)
 }

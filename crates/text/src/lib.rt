@@ -1,5 +1,5 @@
-// The listing's text, written into a lent slice as far as it fits. Each function writes a part at an offset and returns the offset after it, even if
-// that is past the end of the slice: so the last offset is the length of the whole text.
+// The listing's text, written into a lent slice as far as it fits. Each function writes a part at the offset of an `Out` and moves the offset behind
+// it, even if that is past the end of the slice: so the last offset is the length of the whole text.
 #![tactic(auto)]
 
 ghost use Rattle.reader.specs.Answer.{read_of, refused};

@@ -20,11 +20,13 @@ impl<'a> Out<'a> {
     {
         let from = self.at.min(self.bytes.len());
         let n = text.len().min(self.bytes.len() - from);
-        self.bytes[from..from + n].copy_from_slice(&text[..n]);
+        words::copy_by_words(&mut self.bytes[from..from + n], &text[..n]);
         self.at = self.at.saturating_add(text.len());
     }
 
-    // Writes a number in decimal.
+    // Writes a number in decimal. Never inlined, nor is `put_hex`: their digits would lie in the listing's own frame, which would take more than 640
+    // bytes of stack then (README.md).
+    #[inline(never)]
     pub fn put_decimal(&mut self, n: u64)
         ensures { Written (decimal n) self.old self.new }
     {
@@ -34,6 +36,7 @@ impl<'a> Out<'a> {
     }
 
     // Writes a word: 0x and 16 digits.
+    #[inline(never)]
     pub fn put_hex(&mut self, w: u64)
         ensures { Written (hex_text w) self.old self.new }
     {

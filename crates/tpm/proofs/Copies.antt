@@ -1,36 +1,25 @@
--- The first bytes of a slice over the start of another, byte by byte. Assumes nothing.
-use Prim.Native.Nat.{ℕ, ◌+◌, ◌≤◌, ◌<◌}
+-- The first bytes of a slice over the start of another, eight at a time. Assumes nothing.
+use Prim.Native.Nat.{ℕ, ◌+◌, ◌*◌, ◌%◌, ◌≤◌, ◌<◌}
 use mathlib.Core.Path.{◌≡◌, ap, ◌∙◌}
 use mathlib.Core.List.{List, [], ◌∷◌}
 use native.Mathlib.Numerals.{add-one}
 use native.Mathlib.Omega.{arith}
-use lib.ListN.{length, take, get_or, set}
-use lib.Seq.{length-take-le, set_split, append_snoc, paste-zero, take-suc, take-length}
-use Rattle.words.specs.Word.{splice, laid}
-use Rattle.words.proofs.Store.{splice-splice, bytes-in}
+use lib.ListN.{length, drop, set, length-drop}
+use lib.Seq.{set_split, append_snoc}
+use Rattle.words.specs.Word.{le_bytes, part, num_at, splice}
+use Rattle.words.proofs.Bytes.{Bytes, bytes_drop, number-back}
+use Rattle.words.proofs.Store.{bytes_to, eight_more}
 
--- the first i bytes of vs
-unfoldable pub bytes_to : List ℕ → ℕ → List ℕ → List ℕ
-bytes_to vs i s = splice 0 (take i vs) s
+-- one byte
+pub put_one : (s : List ℕ) (i w : ℕ) → i < length s → set s i (w % 256) ≡ splice i (le_bytes 1 w) s
+unfolding splice le_bytes
+put_one s i w h = set_split s i (w % 256) h ∙ rw (add-one, append_snoc)
 
-pub bytes-none : (vs s : List ℕ) → s ≡ bytes_to vs 0 s
-unfolding bytes_to splice
-bytes-none vs s = paste-zero s 0 []
-
-set-splice : (s : List ℕ) (i b : ℕ) → i < length s → set s i b ≡ splice i (b ∷ []) s
-unfolding splice
-set-splice s i b h = set_split s i b h ∙ rw (add-one, append_snoc)
-
-pub bytes-more : (vs : List ℕ) (i : ℕ) (s : List ℕ) → i < length vs → length vs ≤ length s → length (bytes_to vs i s) ≡ length s →
-    set (bytes_to vs i s) i (get_or vs i 0) ≡ bytes_to vs (i + 1) s
-unfolding bytes_to
-bytes-more vs i s h l n =
-    let m : length (take i vs) ≡ i = length-take-le i vs (omega arith) in
-    set-splice (splice 0 (take i vs) s) i (get_or vs i 0) (omega arith)
-    ∙ rw (add-one, take-suc vs i 0 h)
-    (ap (λ (k : ℕ). splice k (get_or vs i 0 ∷ []) (splice 0 (take i vs) s)) (let e : i ≡ 0 + length (take i vs) = omega arith in e)
-    ∙ splice-splice 0 (take i vs) s (omega arith) (get_or vs i 0 ∷ []))
-
-pub bytes-all : (vs s : List ℕ) (i : ℕ) → i ≡ length vs → length vs ≤ length s → bytes_to vs i s ≡ laid 0 vs s
-unfolding bytes_to
-bytes-all vs s i e h = rw (e, bytes-in 0 vs s (omega arith), take-length)
+-- eight more bytes, read as a word
+pub word_more : (vs : List ℕ) (k : ℕ) (s : List ℕ) → Bytes vs → 8 * (k + 1) ≤ length vs → length vs ≤ length s →
+    splice (8 * k) (le_bytes 8 (num_at 8 (8 * k) vs)) (bytes_to vs (8 * k) s) ≡ bytes_to vs (8 * (k + 1)) s
+unfolding num_at part
+word_more vs k s b h l =
+    ap (λ (ws : List ℕ). splice (8 * k) ws (bytes_to vs (8 * k) s))
+    (number-back 8 (drop (8 * k) vs) (bytes_drop (8 * k) vs b) (rw length-drop (omega arith)))
+    ∙ eight_more vs k s h l

@@ -1,20 +1,20 @@
 -- Bytes written over a list at an offset. Assumes nothing.
-use Prim.Native.Nat.{ℕ, ◌+◌, ◌-◌, ◌*◌, ◌^◌, ◌≤◌, ◌<◌}
+use Prim.Native.Nat.{ℕ, ◌+◌, ◌-◌, ◌*◌, ◌/◌, ◌^◌, ◌≤◌, ◌<◌}
 use mathlib.Core.Path.{◌≡◌, refl, sym, ap, ◌∙◌}
 use mathlib.Core.Bool.{Bool, true, false, cond}
 use mathlib.Core.List.{List, [], ◌∷◌, ◌++◌, append_assoc, append-nil}
 use native.Mathlib.Numerals.{add-one}
 use native.Mathlib.Nat.{add_assoc, zero-add}
 use native.Mathlib.Omega.{arith}
-use lib.ListN.{length, take, drop, get_or, length-append, length-drop, drop_of_length-le, take-append-drop}
-use lib.Seq.{length-take-le, take_at, drop_at, drop-drop, drop-append-le, paste-zero, take-suc}
+use lib.ListN.{length, take, drop, get_or, set, length-append, length-drop, drop_of_length-le, take-append-drop}
+use lib.Seq.{length-take-le, take_at, drop_at, drop-drop, drop-append-le, set_split, append_snoc, paste-zero, take-suc, take-add}
 use lib.Seq.{take-length, take_all}
 use lib.Dec.{eqb}
 use borrow.Author.Tests.{le-leb, lt-leb, eqb-true}
 use Rattle.words.specs.Tests.{Yes}
 use Rattle.words.specs.Word.{le_of, le_bytes, part, num_at, bytes_of, splice, laid, span_at, spanned, span_start, no_span}
 use Rattle.words.proofs.Lists.{bytes_of-length, bytes_of-append}
-use Rattle.words.proofs.Read.{le_bytes-length, le_of-le_bytes}
+use Rattle.words.proofs.Read.{le_bytes-length, le_bytes-split, le_of-le_bytes}
 
 module _ (i : ℕ) (vs s : List ℕ) where
   head-length : i ≤ length s → length (take i s ++ vs) ≡ i + length vs
@@ -45,6 +45,14 @@ pub length-splice : (at : ℕ) (vs s : List ℕ) → at + length vs ≤ length s
 unfolding splice
 length-splice at vs s h =
     rw (length-append, length-append) (omega (arith, length-take-le at s (omega arith), length-drop (at + length vs) s))
+
+-- a number's low bytes, then its high ones
+pub put-add : (m n : ℕ) (s : List ℕ) (at w : ℕ) → at ≤ length s →
+    splice (at + m) (le_bytes n (w / 256 ^ m)) (splice at (le_bytes m w) s) ≡ splice at (le_bytes (m + n) w) s
+put-add m n s at w h =
+    rw le_bytes-split
+    (ap (λ (k : ℕ). splice (at + k) (le_bytes n (w / 256 ^ m)) (splice at (le_bytes m w) s)) (sym (le_bytes-length m w))
+    ∙ splice-splice at (le_bytes m w) s h (le_bytes n (w / 256 ^ m)))
 
 -- bytes that fit are written; if they do not all fit, none is
 pub bytes-in : (at : ℕ) (vs s : List ℕ) → at + length vs ≤ length s → laid at vs s ≡ splice at vs s
@@ -102,6 +110,54 @@ pub words-all : (at : ℕ) (ws s : List ℕ) (i : ℕ) → i ≡ length ws → a
     words_to at ws i s ≡ laid at (bytes_of ws) s
 unfolding words_to
 words-all at ws s i e h = rw (e, words-in at ws s h, take-length)
+
+-- ---- bytes, one by one
+set-splice : (s : List ℕ) (i b : ℕ) → i < length s → set s i b ≡ splice i (b ∷ []) s
+unfolding splice
+set-splice s i b h = set_split s i b h ∙ rw (add-one, append_snoc)
+
+-- the first i bytes
+unfoldable pub bytes_to : List ℕ → ℕ → List ℕ → List ℕ
+bytes_to vs i s = splice 0 (take i vs) s
+
+pub bytes-none : (vs s : List ℕ) → s ≡ bytes_to vs 0 s
+unfolding bytes_to splice
+bytes-none vs s = paste-zero s 0 []
+
+pub bytes-more : (vs : List ℕ) (i : ℕ) (s : List ℕ) → i < length vs → length vs ≤ length s → length (bytes_to vs i s) ≡ length s →
+    set (bytes_to vs i s) i (get_or vs i 0) ≡ bytes_to vs (i + 1) s
+unfolding bytes_to
+bytes-more vs i s h l n =
+    let m : length (take i vs) ≡ i = length-take-le i vs (omega arith) in
+    set-splice (splice 0 (take i vs) s) i (get_or vs i 0) (omega arith)
+    ∙ rw (add-one, take-suc vs i 0 h)
+    (ap (λ (k : ℕ). splice k (get_or vs i 0 ∷ []) (splice 0 (take i vs) s)) (let e : i ≡ 0 + length (take i vs) = omega arith in e)
+    ∙ splice-splice 0 (take i vs) s (omega arith) (get_or vs i 0 ∷ []))
+
+pub bytes-all : (vs s : List ℕ) (i : ℕ) → i ≡ length vs → length vs ≤ length s → bytes_to vs i s ≡ laid 0 vs s
+unfolding bytes_to
+bytes-all vs s i e h = rw (e, bytes-in 0 vs s (omega arith), take-length)
+
+pub bytes_to-length : (vs : List ℕ) (i : ℕ) (s : List ℕ) → i ≤ length vs → length vs ≤ length s → length (bytes_to vs i s) ≡ length s
+unfolding bytes_to
+bytes_to-length vs i s h l = length-splice 0 (take i vs) s (omega (arith, length-take-le i vs h))
+
+-- bytes put back into the middle
+pub mid-splice : (at n : ℕ) (vs s : List ℕ) → length vs ≡ n → take at s ++ (vs ++ drop n (drop at s)) ≡ splice at vs s
+unfolding splice
+mid-splice at n vs s h = rw (← h, append_assoc) (ap (λ (t : List ℕ). take at s ++ (vs ++ t)) (drop-drop (length vs) at s))
+
+-- eight more bytes
+pub eight_more : (vs : List ℕ) (k : ℕ) (s : List ℕ) → 8 * (k + 1) ≤ length vs → length vs ≤ length s →
+    splice (8 * k) (part (8 * k) 8 vs) (bytes_to vs (8 * k) s) ≡ bytes_to vs (8 * (k + 1)) s
+unfolding bytes_to part
+eight_more vs k s h l =
+    let m : length (take (8 * k) vs) ≡ 8 * k = length-take-le (8 * k) vs (omega arith) in
+    ap (λ (n : ℕ). splice n (take 8 (drop (8 * k) vs)) (splice 0 (take (8 * k) vs) s))
+    (let f : 8 * k ≡ 0 + length (take (8 * k) vs) = omega arith in f)
+    ∙ splice-splice 0 (take (8 * k) vs) s (omega arith) (take 8 (drop (8 * k) vs))
+    ∙ ap (λ (ws : List ℕ). splice 0 ws s) (sym (take-add (8 * k) 8 vs) ∙
+    ap (λ (n : ℕ). take n vs) (let f : 8 * k + 8 ≡ 8 * (k + 1) = omega arith in f))
 
 lent : (at : ℕ) (vs s : List ℕ) → take at s ++ splice 0 vs (drop at s) ≡ splice at vs s
 unfolding splice

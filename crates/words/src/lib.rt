@@ -144,7 +144,7 @@ pub fn put_words(s: &mut [u8], at: usize, words: &[u64])
 {
     if at <= s.len() && words.len() <= (s.len() - at) / 8 {
         for (i, word) in words.iter().enumerate() {
-            put_word(s, at + 8 * i, *word);
+            s[at + 8 * i..at + 8 * i + 8].copy_from_slice(&word.to_le_bytes());
         }
     }
 }
@@ -161,6 +161,25 @@ pub fn copy(to: &mut [u8], from: &[u8])
     ensures { to.new ≡ laid 0 from.now to.old }
 {
     put(to, 0, from);
+}
+
+// Copies all of `from` to the start of `to`, as `copy` does, in a loop of its own, a word a turn: for an archive that needs no memmove, which
+// `copy` calls. Each word goes through a number, so that the compiler knows that the two slices of a turn do not overlap.
+pub fn copy_by_words(to: &mut [u8], from: &[u8])
+    ensures { to.new ≡ laid 0 from.now to.old }
+{
+    if to.len() < from.len() {
+        return;
+    }
+    let whole = from.len() / 8;
+    for k in 0..whole {
+        let at = 8 * k;
+        let word = whole_word(&from[at..at + 8], 0);
+        to[at..at + 8].copy_from_slice(&word.to_le_bytes());
+    }
+    for i in 8 * whole..from.len() {
+        to[i] = from[i];
+    }
 }
 
 // min(a, b).

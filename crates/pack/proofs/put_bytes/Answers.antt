@@ -9,6 +9,6 @@ pub returns : goal.returns
 returns c =
     let a = c.args in (
       refl,
-      rw c.copy.ensures (lent_back a.at a.bytes.now a.target.now (search rules) ∙
+      rw c.copy_by_words.ensures (lent_back a.at a.bytes.now a.target.now (search rules) ∙
           bytes-in a.at a.bytes.now a.target.now (search rules)),
     )

@@ -10,7 +10,7 @@ returns c =
     let p = response_of a.header a.bytes.now in
     rw (
       c.response_length-whole.ensures,
-      c.copy.ensures,
+      c.copy_by_words.ensures,
       response-put p a.buffer.now _
           c.put_head.ensures (search rules),
     )

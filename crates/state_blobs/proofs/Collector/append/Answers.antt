@@ -8,7 +8,7 @@ unfolding piece_appended
 returns c =
     let a = c.args in
     rw (
-      c.copy.ensures,
+      c.copy_by_words.ensures,
       c.bytes_held-held.ensures.0,
       lent-splice a.self.now.held a.bytes.now a.buffer.now (search rules),
     )

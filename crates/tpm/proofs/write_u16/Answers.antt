@@ -1,0 +1,9 @@
+use Rattle.words.proofs.Store.{put-add}
+use native.Mathlib.Omega.{arith}
+use Rattle.tpm.proofs.write_u16.Goals as goal
+
+pub returns : goal.returns
+returns c =
+    let a = c.args in
+    rw (c.write_u8-2.ensures, c.write_u8.ensures)
+    (put-add 1 1 a.s.now a.at a.w (omega arith))
