@@ -169,7 +169,7 @@ uint32_t pbeam_swtpm_write_response(uint8_t *PBEAM_RESTRICT buffer, size_t buffe
  *          PBEAM_SWTPM_NO_DATA        no new bytes, and fewer held than totlength
  * Leaves   the message unchanged. On OK the data after the bytes held, every other byte of the buffer unchanged, and the collector's
  *          count of bytes held increased by the length of the data.
- * Stack    96 bytes; AArch64 0
+ * Stack    64 bytes; AArch64 0
  * state_flags are not checked. If each accepted response was cut from one blob at the number of bytes then held, with that blob's length
  * as totlength, the buffer starts with the blob's first bytes: request offset pbeam_swtpm_held each time. (swtpm 0.7.1 differs: one
  * response carries all remaining bytes, and its totlength counts from the offset. Send it one request, with offset 0. See docs/SWTPM.md.)

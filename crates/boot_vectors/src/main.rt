@@ -94,7 +94,15 @@ fn print_case(input: &[u8]) {
     }
 }
 
+struct Program;
+
+impl vector_io::CaseProgram for Program {
+    fn show(&self, case: &mut [u8]) {
+        print_case(case);
+    }
+}
+
 fn main(rt: HostRuntime) {
     let mut input = [0u8; 32768];
-    vector_io::each_case(&rt, &mut input, |case| print_case(case));
+    vector_io::each_case(&rt, &mut input, &Program);
 }

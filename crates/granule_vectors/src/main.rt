@@ -176,7 +176,15 @@ fn print_case(input: &[u8]) {
     print_lent(input, &mut table[..t], &mut words[..w], &mut list[..n]);
 }
 
+struct Program;
+
+impl vector_io::CaseProgram for Program {
+    fn show(&self, case: &mut [u8]) {
+        print_case(case);
+    }
+}
+
 fn main(rt: HostRuntime) {
     let mut input = [0u8; 12288];
-    vector_io::each_case(&rt, &mut input, |case| print_case(case));
+    vector_io::each_case(&rt, &mut input, &Program);
 }

@@ -2,14 +2,14 @@
 // words have one bit for each granule.
 #![tactic(auto)]
 
-ghost use Rattle.std.specs.Prelude.{◌≡◌, ◌/◌, ◌<◌, ltb, eqb, length};
+ghost use Rattle.std.specs.Prelude.{◌≡◌, ℕ, List, true, ◌/◌, ◌<◌, ltb, eqb, length};
 ghost use Rattle.words.specs.Tests.{both, Yes};
-ghost use Rattle.codes.specs.Codes.{boot_params, gated, answer_of};
+ghost use Rattle.codes.specs.Codes.{is_up, boot_params, gated, answer_of};
 ghost use Rattle.banks.specs.Banks.{Granules, granule_count, granule_at};
 ghost use Rattle.banks.specs.Fast.{has_one_bank};
 ghost use Rattle.realm_words.specs.Answers.{words_fit, words_code};
 ghost use Rattle.realm_words.specs.Bits.{realm_bit, put_bit};
-ghost use Rattle.granule_rules.specs.Granules.{table_of, move_of, delegate_of, undelegate_of, moved_to};
+ghost use Rattle.granule_rules.specs.Granules.{Moved, table_of, move_of, delegate_of, undelegate_of, moved_to};
 ghost use Rattle.granule_rules.specs.Steps.{Inside, shared_code, move_at, MoveResult};
 ghost use Rattle.granule_rules.specs.Lists.{list_by, move_list_of, delegate_list_of, undelegate_list_of};
 
@@ -118,33 +118,27 @@ fn move_shortcut(
     words: &mut [u64],
     address: u64,
 ) -> Result<(), Code>
-    requires { Yes (has_one_bank granules.now (length table.old)) × Yes (words_fit words.old (length table.old)) }
+    requires { (is_up state ≡ true) × Yes (has_one_bank granules.now (length table.old)) × Yes (words_fit words.old (length table.old)) }
     ensures { MoveResult result table.new words.new (move_of state granules.now direction (table_of table.old words.old) address) }
 {
-    let params = codes::up_params(state)?;
+    let params = codes::boot_params(state);
     let granule = banks::find_first(granules, address);
     move_at(params, granule, direction, table, words, address)
 }
 
-// A call by the shortcut if the records and the words allow it.
-#[inline(always)]
-fn move_single(
-    state: Record,
-    granules: &GranulesImage,
-    direction: Direction,
-    table: &mut [u8],
-    words: &mut [u64],
-    address: u64,
-) -> Result<(), Code>
-    ensures { MoveResult result table.new words.new (move_of state granules.now direction (table_of table.old words.old) address) }
+// The answer of a move: OK, or the code that it was refused with.
+fn answered(moved: Result<(), Code>) -> Answer
+    ensures { (bytes ws : List ℕ) → (m : Moved) → m.answer ≡ answer_of m.answer.code 0 0 → MoveResult moved bytes ws m →
+        moved_to result bytes ws ≡ m }
 {
-    if takes_shortcut(granules, table.len(), words) {
-        return move_shortcut(state, granules, direction, table, words, address);
+    match moved {
+        Ok(()) => Answer::ok(0, 0),
+        Err(code) => Answer::refused(code),
     }
-    move_one(state, granules, direction, table, words, address)
 }
 
-// A call in either direction. Each command gets a copy of its own: one copy for both took half as long again (docs/DECISIONS.md).
+// A call in either direction, by the shortcut if the records and the words allow it. Each command gets a copy of its own, and each way an
+// answer of its own: one copy for both commands took half as long again, and so did one answer for both ways (docs/DECISIONS.md).
 #[inline(always)]
 fn single(
     state: Record,
@@ -156,10 +150,10 @@ fn single(
 ) -> Answer
     ensures { moved_to result table.new words.new ≡ move_of state granules.now direction (table_of table.old words.old) address }
 {
-    match move_single(state, granules, direction, table, words, address) {
-        Ok(()) => Answer::ok(0, 0),
-        Err(code) => Answer::refused(code),
+    if codes::is_up(state) && takes_shortcut(granules, table.len(), words) {
+        return answered(move_shortcut(state, granules, direction, table, words, address));
     }
+    answered(move_one(state, granules, direction, table, words, address))
 }
 
 // ---- a list of calls ----

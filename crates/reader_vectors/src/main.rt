@@ -110,7 +110,15 @@ fn print_input(input: &[u8]) {
     );
 }
 
+struct Program;
+
+impl vector_io::CaseProgram for Program {
+    fn show(&self, case: &mut [u8]) {
+        print_input(case);
+    }
+}
+
 fn main(rt: HostRuntime) {
     let mut input = [0u8; 8209];
-    vector_io::each_case(&rt, &mut input, |case| print_input(case));
+    vector_io::each_case(&rt, &mut input, &Program);
 }

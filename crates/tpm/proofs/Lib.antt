@@ -7,4 +7,3 @@ pub mod Runs
 pub mod Numbers
 pub mod Samples
 pub mod Theorems
-pub mod Copies

@@ -2,8 +2,8 @@
 // lent from guest address 0 on, so a guest physical address is an offset into it.
 #![tactic(auto)]
 
-ghost use Rattle.std.specs.Prelude.{◌≡◌, ◌+◌, ◌≤◌, length, false, IfErr};
-ghost use Rattle.words.specs.Word.{le_bytes, num_at, splice, laid, on_from};
+ghost use Rattle.std.specs.Prelude.{◌≡◌, length, false, IfErr};
+ghost use Rattle.words.specs.Word.{on_from};
 ghost use Rattle.tpm.specs.declared.TpmSession.TheVariants.{None};
 ghost use Rattle.tpm.specs.ReturnCodes.{hcall_number, is_success, code_of};
 ghost use Rattle.tpm.specs.Comm.{buffer_checks, buffers_checks, request_code, step_left, comm_of, tpm_request, tpm_request_span};
@@ -143,70 +143,6 @@ fn request_check(asked: Arguments, len: u64, forbidden: bool) -> Result<(), Retu
     buffers_check(asked, len)
 }
 
-// The 8 bytes at `at` as a number: one sum of bytes, each read in place, which the compiler turns into one load.
-fn read_u64(s: &[u8], at: usize) -> u64
-    requires { at + 8 ≤ length s.now }
-    ensures { result ≡ num_at 8 at s.now }
-{
-    words::widen(s[at])
-        + words::widen(s[at + 1]) * 0x100
-        + words::widen(s[at + 2]) * 0x1_0000
-        + words::widen(s[at + 3]) * 0x100_0000
-        + words::widen(s[at + 4]) * 0x1_0000_0000
-        + words::widen(s[at + 5]) * 0x100_0000_0000
-        + words::widen(s[at + 6]) * 0x1_0000_0000_0000
-        + words::widen(s[at + 7]) * 0x100_0000_0000_0000
-}
-
-// Writes the low 1, 2, 4 or 8 bytes of `w` at `at`.
-fn write_u8(s: &mut [u8], at: usize, w: u64)
-    requires { at + 1 ≤ length s.old }
-    ensures { s.new ≡ splice at (le_bytes 1 w) s.old }
-{
-    s[at] = (w % 0x100) as u8;
-}
-
-fn write_u16(s: &mut [u8], at: usize, w: u64)
-    requires { at + 2 ≤ length s.old }
-    ensures { s.new ≡ splice at (le_bytes 2 w) s.old }
-{
-    write_u8(s, at, w);
-    write_u8(s, at + 1, w / 0x100);
-}
-
-fn write_u32(s: &mut [u8], at: usize, w: u64)
-    requires { at + 4 ≤ length s.old }
-    ensures { s.new ≡ splice at (le_bytes 4 w) s.old }
-{
-    write_u16(s, at, w);
-    write_u16(s, at + 2, w / 0x1_0000);
-}
-
-fn write_u64(s: &mut [u8], at: usize, w: u64)
-    requires { at + 8 ≤ length s.old }
-    ensures { s.new ≡ splice at (le_bytes 8 w) s.old }
-{
-    write_u32(s, at, w);
-    write_u32(s, at + 4, w / 0x1_0000_0000);
-}
-
-// Copies all of `from` to the start of `to`. If `to` is shorter, no byte changes. A word a turn, byte by byte read and written as a number: one load and
-// one store on a processor with unaligned access, and half the instructions of `words::copy_by_words` on any other. It needs no memmove.
-fn copy(to: &mut [u8], from: &[u8])
-    ensures { to.new ≡ laid 0 from.now to.old }
-{
-    if to.len() < from.len() {
-        return;
-    }
-    let whole = from.len() / 8;
-    for k in 0..whole {
-        write_u64(to, 8 * k, read_u64(from, 8 * k));
-    }
-    for i in 8 * whole..from.len() {
-        to[i] = from[i];
-    }
-}
-
 // H_TPM_COMM. Execute writes the platform's response at `outbuffer` and opens a session unless one is open; r4 is the length of the
 // response. Close closes the session. A refused call changes nothing. Read the request before this call: the response may overwrite it.
 pub fn comm(
@@ -251,7 +187,7 @@ pub fn comm(
         };
     }
     let at = asked.outbuffer as usize;
-    copy(&mut memory[at..], response);
+    words::copy_by_words(&mut memory[at..], response);
     CommResult {
         code: ReturnCode::Success,
         r4: written,

@@ -46,17 +46,21 @@ pub fn load(rt: &impl Files<File = File>, n: u64, input: &mut [u8]) -> usize
     length
 }
 
-// Calls `show` with the bytes of each case in turn, c000 first, up to the first number without a case. `input` holds one case at a time.
-pub fn each_case<F: FnMut(&mut [u8])>(rt: &impl Files<File = File>, input: &mut [u8], mut show: F)
-    requires { F.IsAlwaysCallable show }
-{
+// A test program, by what it does with one case.
+pub trait CaseProgram {
+    // Runs the case on the kit and prints what came of it.
+    fn show(&self, case: &mut [u8]);
+}
+
+// Gives `program` the bytes of each case in turn, c000 first, up to the first number without a case. `input` holds one case at a time.
+pub fn each_case(rt: &impl Files<File = File>, input: &mut [u8], program: &impl CaseProgram) {
     // Counted: `n` is the number in a file's name, and no list holds the files.
     for n in 0..1000u64 {
         let length = load(rt, n, input);
         if length == 0 {
             return;
         }
-        show(&mut input[..length]);
+        program.show(&mut input[..length]);
     }
 }
 

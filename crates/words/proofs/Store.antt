@@ -1,5 +1,5 @@
 -- Bytes written over a list at an offset. Assumes nothing.
-use Prim.Native.Nat.{ℕ, ◌+◌, ◌-◌, ◌*◌, ◌/◌, ◌^◌, ◌≤◌, ◌<◌}
+use Prim.Native.Nat.{ℕ, ◌+◌, ◌-◌, ◌*◌, ◌/◌, ◌%◌, ◌^◌, ◌≤◌, ◌<◌}
 use mathlib.Core.Path.{◌≡◌, refl, sym, ap, ◌∙◌}
 use mathlib.Core.Bool.{Bool, true, false, cond}
 use mathlib.Core.List.{List, [], ◌∷◌, ◌++◌, append_assoc, append-nil}
@@ -13,6 +13,7 @@ use lib.Dec.{eqb}
 use borrow.Author.Tests.{le-leb, lt-leb, eqb-true}
 use Rattle.words.specs.Tests.{Yes}
 use Rattle.words.specs.Word.{le_of, le_bytes, part, num_at, bytes_of, splice, laid, span_at, spanned, span_start, no_span}
+use Rattle.words.proofs.Bytes.{Bytes, bytes_drop, number-back}
 use Rattle.words.proofs.Lists.{bytes_of-length, bytes_of-append}
 use Rattle.words.proofs.Read.{le_bytes-length, le_bytes-split, le_of-le_bytes}
 
@@ -116,6 +117,11 @@ set-splice : (s : List ℕ) (i b : ℕ) → i < length s → set s i b ≡ splic
 unfolding splice
 set-splice s i b h = set_split s i b h ∙ rw (add-one, append_snoc)
 
+-- one byte, as a number
+pub put_one : (s : List ℕ) (i w : ℕ) → i < length s → set s i (w % 256) ≡ splice i (le_bytes 1 w) s
+unfolding le_bytes
+put_one s i w h = set-splice s i (w % 256) h
+
 -- the first i bytes
 unfoldable pub bytes_to : List ℕ → ℕ → List ℕ → List ℕ
 bytes_to vs i s = splice 0 (take i vs) s
@@ -138,10 +144,6 @@ pub bytes-all : (vs s : List ℕ) (i : ℕ) → i ≡ length vs → length vs �
 unfolding bytes_to
 bytes-all vs s i e h = rw (e, bytes-in 0 vs s (omega arith), take-length)
 
-pub bytes_to-length : (vs : List ℕ) (i : ℕ) (s : List ℕ) → i ≤ length vs → length vs ≤ length s → length (bytes_to vs i s) ≡ length s
-unfolding bytes_to
-bytes_to-length vs i s h l = length-splice 0 (take i vs) s (omega (arith, length-take-le i vs h))
-
 -- bytes put back into the middle
 pub mid-splice : (at n : ℕ) (vs s : List ℕ) → length vs ≡ n → take at s ++ (vs ++ drop n (drop at s)) ≡ splice at vs s
 unfolding splice
@@ -158,6 +160,15 @@ eight_more vs k s h l =
     ∙ splice-splice 0 (take (8 * k) vs) s (omega arith) (take 8 (drop (8 * k) vs))
     ∙ ap (λ (ws : List ℕ). splice 0 ws s) (sym (take-add (8 * k) 8 vs) ∙
     ap (λ (n : ℕ). take n vs) (let f : 8 * k + 8 ≡ 8 * (k + 1) = omega arith in f))
+
+-- eight more bytes, read as a word
+pub word_more : (vs : List ℕ) (k : ℕ) (s : List ℕ) → Bytes vs → 8 * (k + 1) ≤ length vs → length vs ≤ length s →
+    splice (8 * k) (le_bytes 8 (num_at 8 (8 * k) vs)) (bytes_to vs (8 * k) s) ≡ bytes_to vs (8 * (k + 1)) s
+unfolding num_at part
+word_more vs k s b h l =
+    ap (λ (ws : List ℕ). splice (8 * k) ws (bytes_to vs (8 * k) s))
+    (number-back 8 (drop (8 * k) vs) (bytes_drop (8 * k) vs b) (rw length-drop (omega arith)))
+    ∙ eight_more vs k s h l
 
 lent : (at : ℕ) (vs s : List ℕ) → take at s ++ splice 0 vs (drop at s) ≡ splice at vs s
 unfolding splice

@@ -163,8 +163,56 @@ pub fn copy(to: &mut [u8], from: &[u8])
     put(to, 0, from);
 }
 
-// Copies all of `from` to the start of `to`, as `copy` does, in a loop of its own, a word a turn: for an archive that needs no memmove, which
-// `copy` calls. Each word goes through a number, so that the compiler knows that the two slices of a turn do not overlap.
+// The 8 bytes at `at` as a number: one sum of bytes, each read in place, which the compiler turns into one load.
+fn read_u64(s: &[u8], at: usize) -> u64
+    requires { at + 8 ≤ length s.now }
+    ensures { result ≡ num_at 8 at s.now }
+{
+    widen(s[at])
+        + widen(s[at + 1]) * 0x100
+        + widen(s[at + 2]) * 0x1_0000
+        + widen(s[at + 3]) * 0x100_0000
+        + widen(s[at + 4]) * 0x1_0000_0000
+        + widen(s[at + 5]) * 0x100_0000_0000
+        + widen(s[at + 6]) * 0x1_0000_0000_0000
+        + widen(s[at + 7]) * 0x100_0000_0000_0000
+}
+
+// Writes the low 1, 2, 4 or 8 bytes of `w` at `at`.
+fn write_u8(s: &mut [u8], at: usize, w: u64)
+    requires { at + 1 ≤ length s.old }
+    ensures { s.new ≡ splice at (le_bytes 1 w) s.old }
+{
+    s[at] = (w % 0x100) as u8;
+}
+
+fn write_u16(s: &mut [u8], at: usize, w: u64)
+    requires { at + 2 ≤ length s.old }
+    ensures { s.new ≡ splice at (le_bytes 2 w) s.old }
+{
+    write_u8(s, at, w);
+    write_u8(s, at + 1, w / 0x100);
+}
+
+fn write_u32(s: &mut [u8], at: usize, w: u64)
+    requires { at + 4 ≤ length s.old }
+    ensures { s.new ≡ splice at (le_bytes 4 w) s.old }
+{
+    write_u16(s, at, w);
+    write_u16(s, at + 2, w / 0x1_0000);
+}
+
+fn write_u64(s: &mut [u8], at: usize, w: u64)
+    requires { at + 8 ≤ length s.old }
+    ensures { s.new ≡ splice at (le_bytes 8 w) s.old }
+{
+    write_u32(s, at, w);
+    write_u32(s, at + 4, w / 0x1_0000_0000);
+}
+
+// Copies all of `from` to the start of `to`, as `copy` does, in a loop of its own: for an archive that needs no memmove, which `copy`
+// calls. Each turn reads a word and writes it, as a number: one load and one store, or eight of each where the processor has no unaligned
+// access.
 pub fn copy_by_words(to: &mut [u8], from: &[u8])
     ensures { to.new ≡ laid 0 from.now to.old }
 {
@@ -173,9 +221,7 @@ pub fn copy_by_words(to: &mut [u8], from: &[u8])
     }
     let whole = from.len() / 8;
     for k in 0..whole {
-        let at = 8 * k;
-        let word = whole_word(&from[at..at + 8], 0);
-        to[at..at + 8].copy_from_slice(&word.to_le_bytes());
+        write_u64(to, 8 * k, read_u64(from, 8 * k));
     }
     for i in 8 * whole..from.len() {
         to[i] = from[i];

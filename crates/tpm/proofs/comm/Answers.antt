@@ -42,14 +42,14 @@ returns-then-outsize-written c =
     let h = passed c.in_default.ensures.code in
     sym (comm-faults _ _ _ _ _ _ h (search rules) (simp (f, lt-ltb a.asked.outsize (length a.response.now) l)))
 
-pub slice_bounds-copy-count : goal.slice_bounds-copy-count
-slice_bounds-copy-count c =
+pub slice_bounds-copy_by_words-count : goal.slice_bounds-copy_by_words-count
+slice_bounds-copy_by_words-count c =
     let h = passed c.in_default.ensures.code in
     let p = request-placed _ _ _ h (search rules) in
     omega (arith, p.input.begins, p.output.begins)
 
-pub slice_bounds-copy-start : goal.slice_bounds-copy-start
-slice_bounds-copy-start c =
+pub slice_bounds-copy_by_words-start : goal.slice_bounds-copy_by_words-start
+slice_bounds-copy_by_words-start c =
     let h = passed c.in_default.ensures.code in
     let p = request-placed _ _ _ h (search rules) in
     omega (arith, p.input.begins, p.output.begins)
@@ -64,5 +64,5 @@ returns c =
     let m : a.asked.outbuffer + length a.response.now ≤ length a.memory.now = omega (arith, p.output.ends) in
     let w = lent_back a.asked.outbuffer a.response.now a.memory.now m ∙
     bytes-in a.asked.outbuffer a.response.now a.memory.now m in
-    rw c.copy.ensures
+    rw c.copy_by_words.ensures
     (comm-leaves _ _ _ _ _ _ _ w h e (search rules) r)

@@ -1,7 +1,7 @@
 use Prim.Native.Nat.{◌+◌}
 use native.Mathlib.Omega.{arith}
 use Rattle.words.proofs.Read.{num-one, num-add}
-use Rattle.tpm.proofs.read_u64.Goals as goal
+use Rattle.words.proofs.read_u64.Goals as goal
 
 pub returns : goal.returns
 returns c =

@@ -1,6 +1,6 @@
 use Rattle.words.proofs.Store.{put-add}
 use native.Mathlib.Omega.{arith}
-use Rattle.tpm.proofs.write_u32.Goals as goal
+use Rattle.words.proofs.write_u32.Goals as goal
 
 pub returns : goal.returns
 returns c =
