@@ -14,19 +14,20 @@ pub struct Out<'a> {
 }
 
 impl<'a> Out<'a> {
-    // Writes any bytes.
+    // Writes any bytes. A byte a turn, for most texts are of one or two bytes: a call of memmove, which `copy_from_slice` makes, takes longer.
     pub fn put(&mut self, text: &[u8])
         ensures { Written text.now self.old self.new }
     {
         let from = self.at.min(self.bytes.len());
         let n = text.len().min(self.bytes.len() - from);
-        words::copy_by_words(&mut self.bytes[from..from + n], &text[..n]);
+        let to = &mut self.bytes[from..from + n];
+        for (i, byte) in text[..n].iter().enumerate() {
+            to[i] = *byte;
+        }
         self.at = self.at.saturating_add(text.len());
     }
 
-    // Writes a number in decimal. Never inlined, nor is `put_hex`: their digits would lie in the listing's own frame, which would take more than 640
-    // bytes of stack then (README.md).
-    #[inline(never)]
+    // Writes a number in decimal.
     pub fn put_decimal(&mut self, n: u64)
         ensures { Written (decimal n) self.old self.new }
     {
@@ -36,7 +37,6 @@ impl<'a> Out<'a> {
     }
 
     // Writes a word: 0x and 16 digits.
-    #[inline(never)]
     pub fn put_hex(&mut self, w: u64)
         ensures { Written (hex_text w) self.old self.new }
     {
