@@ -176,6 +176,7 @@ fn print_case(input: &[u8]) {
     print_lent(input, &mut table[..t], &mut words[..w], &mut list[..n]);
 }
 
+// This program, as `vector_io::each_case` takes it.
 struct Program;
 
 impl vector_io::CaseProgram for Program {

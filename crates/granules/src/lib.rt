@@ -126,7 +126,7 @@ fn move_shortcut(
     move_at(params, granule, direction, table, words, address)
 }
 
-// The answer of a move: OK, or the code that it was refused with.
+// The answer of a single call whose move came out as `moved`: OK, or the code of the refusal; x1 and x2 are 0.
 fn answered(moved: Result<(), Code>) -> Answer
     ensures { (bytes ws : List ℕ) → (m : Moved) → m.answer ≡ answer_of m.answer.code 0 0 → MoveResult moved bytes ws m →
         moved_to result bytes ws ≡ m }
@@ -137,8 +137,8 @@ fn answered(moved: Result<(), Code>) -> Answer
     }
 }
 
-// A call in either direction, by the shortcut if the records and the words allow it. Each command gets a copy of its own, and each way an
-// answer of its own: one copy for both commands took half as long again, and so did one answer for both ways (docs/DECISIONS.md).
+// A call in either direction, by the shortcut if the records and the words allow it. Each command gets a copy of its own, since one copy for
+// both took half as long again, and each way an answer of its own, since one answer for both went over our limits (docs/DECISIONS.md).
 #[inline(always)]
 fn single(
     state: Record,

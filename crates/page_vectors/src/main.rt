@@ -95,6 +95,7 @@ fn print_case(input: &mut [u8]) {
     print_packed(&input[32..], base, &mut room[..n]);
 }
 
+// This program, as `vector_io::each_case` takes it.
 struct Program;
 
 impl vector_io::CaseProgram for Program {

@@ -394,6 +394,7 @@ fn print_case(input: &[u8]) {
     );
 }
 
+// This program, as `vector_io::each_case` takes it.
 struct Program;
 
 impl vector_io::CaseProgram for Program {

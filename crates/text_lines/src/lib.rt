@@ -14,7 +14,8 @@ pub struct Out<'a> {
 }
 
 impl<'a> Out<'a> {
-    // Writes any bytes. A byte a turn, for most texts are of one or two bytes: a call of memmove, which `copy_from_slice` makes, takes longer.
+    // Writes `text`, which may be any bytes, a byte a turn: most texts are of one or two bytes, and a call of memmove, which
+    // `copy_from_slice` makes, takes longer than they do.
     pub fn put(&mut self, text: &[u8])
         ensures { Written text.now self.old self.new }
     {

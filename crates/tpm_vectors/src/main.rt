@@ -108,6 +108,7 @@ fn print_case(input: &[u8]) {
     print_lent(input, &mut memory, &mut response);
 }
 
+// This program, as `vector_io::each_case` takes it.
 struct Program;
 
 impl vector_io::CaseProgram for Program {

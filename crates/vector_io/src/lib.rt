@@ -48,7 +48,7 @@ pub fn load(rt: &impl Files<File = File>, n: u64, input: &mut [u8]) -> usize
 
 // A test program, by what it does with one case.
 pub trait CaseProgram {
-    // Runs the case on the kit and prints what came of it.
+    // Calls the kit as `case` says, and prints what comes of it. `case` may be used as room.
     fn show(&self, case: &mut [u8]);
 }
 

@@ -95,6 +95,7 @@ fn print_case(input: &[u8]) {
     print_written(input, &list, &mut room[..n]);
 }
 
+// This program, as `vector_io::each_case` takes it.
 struct Program;
 
 impl vector_io::CaseProgram for Program {

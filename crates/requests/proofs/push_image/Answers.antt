@@ -5,6 +5,8 @@ use Rattle.request_rules.specs.Push.{request_of, push_code}
 use Rattle.request_rules.proofs.OnImages.{push-image-refused, push-image-done}
 use Rattle.requests.proofs.push_image.Goals as goal
 
+-- Refused: `g` says that the code is the one of the definition, and not OK,
+-- and then the definition leaves the image as it was.
 pub returns-in-Err : goal.returns-in-Err
 returns-in-Err c =
     let b = c.args.buffer.now in
